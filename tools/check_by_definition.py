@@ -123,18 +123,20 @@ def fault_of_one(graph, blocks):
     return None
 
 
-# Steps of a change: ("node", label), ("link", u, v), ("unlink", u, v), ("drop", u).
+# Steps of a change: ("node", label), ("link", u, v), ("unlink", u, v), ("drop", u), ("relabel", u, label).
 
 def refusal(graph, step):
     """The word with which a step is refused, None where it is accepted."""
     if step[0] == "node":
         return None
-    if not all(map(graph.is_live, step[1:])):
+    if not all(graph.is_live(part) for part in step[1:] if not isinstance(part, str)):
         return "no-node"
     return "no-edge" if step[0] == "unlink" and step[1:] not in graph.edges else None
 
 
 def is_idle(graph, step):
+    if step[0] == "relabel":
+        return graph.labels[step[1]] == step[2]
     return step[0] == "link" and step[1:] in graph.edges
 
 
@@ -148,6 +150,10 @@ def make(graph, step):
         graph.labels[step[1]] = None
         graph.edges = {edge for edge in graph.edges if step[1] not in edge}
         return children
+    if step[0] == "relabel":
+        altered = set() if is_idle(graph, step) else {step[1]}
+        graph.labels[step[1]] = step[2]
+        return altered
     altered = set() if is_idle(graph, step) else {step[2]}
     if step[0] == "link":
         graph.edges.add(step[1:])
@@ -526,7 +532,7 @@ class Run:
         if self.has_hub:
             self.hub()
             return
-        changes = [self.node, self.link, self.link, self.link, self.unlink, self.unlink, self.drop, self.group, self.group]
+        changes = [self.node, self.link, self.link, self.link, self.unlink, self.unlink, self.drop, self.relabel, self.group, self.group]
         asks = [self.path, self.path, self.why, self.why, self.branch, self.branch, self.extents, self.sizes]
         for _ in range(LINES):
             if changes_alone and self.may_have_rings and not has_ring(self.graph):
@@ -555,7 +561,8 @@ class Run:
         added = range(len(self.graph.labels), len(graph.labels))
         if is_new and not refused:
             self.graph = graph
-            self.moved({n for n in altered if graph.is_live(n)}, steps[0][1:] if len(steps) == 1 and len(steps[0]) == 3 else None)
+            is_edge = len(steps) == 1 and steps[0][0] in ("link", "unlink")
+            self.moved({n for n in altered if graph.is_live(n)}, steps[0][1:] if is_edge else None)
         reply = [f"refused {refused}"] if refused else [f"added n{n}" for n in added]
         lines = [spelled_step_of_change(step) for step in steps]
         if is_group:
@@ -577,7 +584,8 @@ class Run:
         """Several steps, or none, of which most can be made where they stand."""
         graph, steps = self.graph.copy(), []
         for _ in range(self.pick.randrange(GROUP + 1)):
-            step = self.pick.choice([self.a_node, self.a_link, self.a_link, self.a_link, self.an_unlink, self.an_unlink, self.a_drop])(graph)
+            kinds = [self.a_node, self.a_link, self.a_link, self.a_link, self.an_unlink, self.an_unlink, self.a_drop, self.a_relabel]
+            step = self.pick.choice(kinds)(graph)
             if not refusal(graph, step):
                 make(graph, step)
             elif self.pick.randrange(LINES):
@@ -611,6 +619,9 @@ class Run:
     def a_drop(self, graph):
         return "drop", self.any_node(graph)
 
+    def a_relabel(self, graph):
+        return "relabel", self.any_node(graph), self.pick.choice(LABELS)
+
     def node(self):
         self.change(self.a_node(self.graph))
 
@@ -622,6 +633,9 @@ class Run:
 
     def drop(self):
         self.change(self.a_drop(self.graph))
+
+    def relabel(self):
+        self.change(self.a_relabel(self.graph))
 
     def add(self, label):
         self.change(("node", label))

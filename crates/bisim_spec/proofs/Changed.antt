@@ -1,19 +1,14 @@
 -- What a change makes of a stable partition.
-use Rattle.std.proofs.Common.{◌≡◌, ℕ, List, Option, Ok, IsFalse, sym, ◌∙◌, ap}
+use Rattle.std.proofs.Common.{◌≡◌, ℕ, List, Option, IsFalse, sym, ◌∙◌, ap}
 use Rattle.std.specs.Prelude.{Bool, is_some}
-use Rattle.graph_spec.specs.declared.limits.Limits.{Limits}
-use Rattle.graph_spec.specs.Graphs.{Graph, IsGraph}
-use Rattle.graph_spec.specs.Changes.{Change, apply}
-use Rattle.graph_spec.specs.Shapes.{Shape, IsNode, IsParent, IsShape, shape_of}
+use Rattle.graph_spec.specs.Shapes.{Shape, IsNode, IsParent, IsShape}
 use Rattle.graph_spec.specs.Members.{at}
-use Rattle.graph_spec.proofs.GraphLaws.{is_shape, graph_applied}
 use Rattle.bisim_spec.specs.Partitions.{Together, IsPartition}
 use Rattle.bisim_spec.specs.Stability.{StableBut, Stable}
-use Rattle.bisim_spec.specs.Targets.{KeepsBlocks, target}
+use Rattle.bisim_spec.specs.KeptBlocks.{KeepsBlocks}
 use Rattle.bisim_spec.proofs.Stable.{stable_label, stable_parents}
 use Rattle.bisim_spec.proofs.Together.{together_sym, together_some}
 use Rattle.bisim_spec.proofs.Outside.{DiffersAt}
-use Rattle.bisim_spec.proofs.Differs.{differs_applied}
 
 -- what is no target and a node after is a node before
 pub live_before : (target : ℕ → Bool) (s s2 : Shape) → DiffersAt target s s2 → (n : ℕ) → IsFalse (target n) → IsNode s2 n → IsNode s n
@@ -51,9 +46,3 @@ stable_but_changed target s s2 block block2 shape shape2 d keeps st partition = 
 
     before : (u v : ℕ) → IsFalse (target u) → IsFalse (target v) → Together block2 u v → Together block u v
     before u v nu nv t = (t.0, sym (same u nu (first u v t)) ∙ t.1, sym (same v nv (second u v t)) ∙ t.2)
-
--- the same for a change that is accepted
-pub stable_but_applied : (c : Change) (g : Graph) (limits : Limits) (g2 : Graph) (block block2 : List (Option ℕ)) → IsGraph g → apply c g limits ≡ Ok g2
-    → KeepsBlocks (shape_of g) (shape_of g2) block block2 → Stable (shape_of g) block → IsPartition (shape_of g2) block2 → StableBut (shape_of g2) block2 (target c g)
-stable_but_applied c g limits g2 block block2 graph h =
-    stable_but_changed (target c g) (shape_of g) (shape_of g2) block block2 (is_shape g graph) (is_shape g2 (graph_applied c g g2 limits graph h)) (differs_applied c g limits g2 h)

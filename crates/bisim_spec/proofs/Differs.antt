@@ -1,16 +1,14 @@
--- A change alters a graph at its target alone.
-use Rattle.std.proofs.Common.{◌≡◌, ◌≢◌, ℕ, zero, suc, ◌<◌, Bool, false, List, [], ◌∷◌, ◌++◌, length, Option, Some, None, Ok, refl, sym, ◌∙◌, ap, arith, inl, inr, nat_eq, length-append}
+-- Where a node or an edge comes or goes, a graph differs at one node alone.
+use Rattle.std.proofs.Common.{◌≡◌, ◌≢◌, ℕ, zero, suc, ◌<◌, Bool, false, List, [], ◌∷◌, ◌++◌, length, Option, Some, None, refl, sym, ◌∙◌, ap, arith, inl, inr, nat_eq, length-append}
 use Rattle.std.specs.Prelude.{◌&&◌, ◌||◌, not, option_and_then, slice_get, slice_set}
 use Rattle.std.proofs.Math.Bool.{and-false}
-use Rattle.std.proofs.lemmas.Bool.{cases_lt, cases_Bool}
+use Rattle.std.proofs.lemmas.Bool.{cases_lt}
 use Rattle.std.proofs.lemmas.Bool.Decides.{eqb_tells}
 use Rattle.std.proofs.lemmas.Option.{slice_get_past}
-use Rattle.graph_spec.specs.declared.limits.Limits.{Limits}
-use Rattle.graph_spec.specs.Graphs.{Graph, label_of, has_edge, is_live}
-use Rattle.graph_spec.specs.Changes.{Change, node, link, unlink, drop, after, apply, with_node, with_edge, without_edge, without_node, is_used, node_fits, edge_fits}
+use Rattle.graph_spec.specs.Graphs.{Graph, label_of, has_edge}
+use Rattle.graph_spec.specs.Changes.{with_node, with_edge, without_edge, without_node}
 use Rattle.graph_spec.specs.Shapes.{shape_of}
 use Rattle.graph_spec.proofs.GraphLaws.{edge_with, edge_without}
-use Rattle.bisim_spec.specs.Targets.{target}
 use Rattle.bisim_spec.proofs.Outside.{DiffersAt}
 
 apart_of : (n m : ℕ) → nat_eq n m ≡ false → n ≢ m
@@ -71,29 +69,3 @@ differs_drop g u = record {
   label = λ n live h. label_without_node g u n (apart_of n u h);
   edge = λ p n live h. refl;
 }
-
--- the graph that a change leaves differs from the one before at the target alone
-pub differs_after : (c : Change) (g : Graph) → DiffersAt (target c g) (shape_of g) (shape_of (after c g))
-differs_after (node t) g = differs_node g t
-differs_after (link u v) g = differs_link g u v
-differs_after (unlink u v) g = differs_unlink g u v
-differs_after (drop u) g = differs_drop g u
-
--- where a change is accepted, the graph is the one that it leaves
-pub applied_after : (c : Change) (g : Graph) (limits : Limits) (g2 : Graph) → apply c g limits ≡ Ok g2 → g2 ≡ after c g
-applied_after (node t) g limits g2 h = elim (cases_Bool (node_fits g limits t)) [ inl a ↦ cc | inr a ↦ cc ]
-applied_after (link u v) g limits g2 h = elim (cases_Bool (is_live g u && is_live g v)) [
-  | inl a ↦ elim (cases_Bool (edge_fits g limits u v)) [ inl b ↦ cc | inr b ↦ cc ]
-  | inr a ↦ cc
-]
-applied_after (unlink u v) g limits g2 h = elim (cases_Bool (is_live g u && is_live g v)) [
-  | inl a ↦ elim (cases_Bool (has_edge g u v)) [ inl b ↦ cc | inr b ↦ cc ]
-  | inr a ↦ cc
-]
-applied_after (drop u) g limits g2 h = elim (cases_Bool (is_live g u)) [
-  | inl a ↦ elim (cases_Bool (is_used g u)) [ inl b ↦ cc | inr b ↦ cc ]
-  | inr a ↦ cc
-]
-
-pub differs_applied : (c : Change) (g : Graph) (limits : Limits) (g2 : Graph) → apply c g limits ≡ Ok g2 → DiffersAt (target c g) (shape_of g) (shape_of g2)
-differs_applied c g limits g2 h = rw (applied_after c g limits g2 h) (differs_after c g)

@@ -8,7 +8,7 @@ use Rattle.bisim_spec.specs.Bisimilarity.{node_count, Bis, Bisim, Both, FB}
 use Rattle.bisim_spec.specs.Partitions.{IsPartition, Agrees}
 use Rattle.bisim_spec.specs.Stability.{StableBut, Stable, StableBoth, Mergeable, Minimal}
 use Rattle.bisim_spec.specs.Reach.{within_distance, reach, Acyclic}
-use Rattle.bisim_spec.specs.Targets.{HasOther}
+use Rattle.bisim_spec.specs.KeptBlocks.{HasOther}
 use Rattle.bisim_spec.specs.Weights.{weight, size_of}
 use Rattle.bisim_spec.specs.Supports.{support}
 use Rattle.bisim_spec.specs.NodeEdges.{touching_count}

@@ -1,10 +1,9 @@
--- Targets, and what fits, at small graphs and near misses.
-use Rattle.std.proofs.Common.{◌≡◌, ℕ, ◌<◌, zero, suc, true, false, List, [], ◌∷◌, Option, Some, None, IsSome, refl, sym, ◌∙◌, ap, subst, arith, true≢false, unwrap_or, slice_get}
+-- What fits, at small graphs and near misses.
+use Rattle.std.proofs.Common.{◌≡◌, ℕ, ◌<◌, zero, suc, false, List, [], ◌∷◌, Option, Some, None, IsSome, refl, sym, ◌∙◌, ap, subst, arith, true≢false, unwrap_or, slice_get}
 use Rattle.std.specs.Prelude.{codes}
 use Rattle.std.specs.FinSet as set
 use Rattle.std.specs.FinMap as table
 use Rattle.graph_spec.specs.Graphs.{Graph, edge_cmp, label_of}
-use Rattle.graph_spec.specs.Changes.{node, link, unlink, drop}
 use Rattle.graph_spec.specs.Members.{at}
 use Rattle.graph_spec.specs.Shapes.{Shape, IsNode, IsParent, IsShape, shape_of}
 use Rattle.graph_spec.proofs.EdgeOrder.{edge_cmp_total}
@@ -13,40 +12,18 @@ use Rattle.bisim_spec.specs.Bisimilarity.{Bis, FB}
 use Rattle.bisim_spec.specs.Partitions.{Together, Agrees}
 use Rattle.bisim_spec.specs.Stability.{Stable, Minimal}
 use Rattle.bisim_spec.specs.Supports.{joins, edges_between}
-use Rattle.bisim_spec.specs.Targets.{target, KeepsParents}
 use Rattle.bisim_spec.specs.IndexGraphs.{View, ViewFits, support_at}
 use Rattle.bisim_spec.specs.Fits.{Fits, FitsAt, view_at, view_count}
 use Rattle.bisim_spec.proofs.EdgeSets.{kept, same_len}
 use Rattle.bisim_spec.proofs.Ranks.{acyclic_full}
-use Rattle.bisim_spec.proofs.StabilityTests.{partition_decides}
-use Rattle.bisim_spec.proofs.Examples.{level_decides, fb_full_decides}
+use Rattle.bisim_spec.proofs.StabilityTests.{partition_decides, stable_decides, minimal_decides}
+use Rattle.bisim_spec.proofs.WrittenShapes.{shape_of_list, shape_from}
+use Rattle.bisim_spec.proofs.WrittenGraphs.{graph_from, shape_from_list}
+use Rattle.bisim_spec.proofs.Examples.{refuted, level_decides, fb_full_decides}
 
 -- nodes n0 and n1 were added, and n1 is gone
 abbrev one_left : Graph
 one_left = record { allocated = Some (codes "a") ∷ None ∷ []; edges = set.empty; seen = codes "a" ∷ [] }
-
--- a new node gets the next number, and none that is gone
-target_node : target (node (codes "b")) one_left 2 ≡ true
-target_node = refl
-
-target_not_gone : target (node (codes "b")) one_left 1 ≡ false
-target_not_gone = refl
-
--- an edge alters the node at its end, not the one at its beginning
-target_link : target (link 6 3) one_left 3 ≡ true
-target_link = refl
-
-target_not_beginning : target (link 6 3) one_left 6 ≡ false
-target_not_beginning = refl
-
-target_unlink : target (unlink 6 3) one_left 3 ≡ true
-target_unlink = refl
-
-target_drop : target (drop 0) one_left 0 ≡ true
-target_drop = refl
-
-drop_keeps_nothing : (g : Graph) (block : List (Option ℕ)) → KeepsParents (drop 0) g block → ⊥
-drop_keeps_nothing g block h = h
 
 -- the view of the forward and backward index may be not computed, and no other one
 not_computed : (g : Graph) → Fits Fb (None ∷ []) g
@@ -207,3 +184,78 @@ support_alone h =
 -- a live node without a block is refused
 without_block : Fits A (Some (record one_block { block_of = [] }) ∷ []) one_left → ⊥
 without_block h = let p = (h.each 0 (omega arith)).agrees.partition.live 0 refl in true≢false (sym p)
+
+-- two a, and a b to which an edge leads from each
+
+abbrev pair_labels : List (List ℕ)
+pair_labels = codes "a" ∷ codes "a" ∷ codes "b" ∷ []
+
+abbrev two_edges : List (ℕ × ℕ)
+two_edges = (1, 2) ∷ (0, 2) ∷ []
+
+abbrev pair : Graph
+pair = graph_from (codes "a" ∷ codes "b" ∷ []) pair_labels two_edges
+
+pair_shape : IsShape (shape_of_list pair_labels two_edges)
+pair_shape = shape_from pair_labels two_edges refl
+
+abbrev apart : List (Option ℕ)
+apart = Some 0 ∷ Some 2 ∷ Some 1 ∷ []
+
+-- a -> b, and a b by itself: level 1 tells the two b apart, and the levels can't change places
+
+abbrev lone_labels : List (List ℕ)
+lone_labels = codes "a" ∷ codes "b" ∷ codes "b" ∷ []
+
+abbrev lone : Graph
+lone = graph_from (codes "a" ∷ codes "b" ∷ []) lone_labels ((0, 1) ∷ [])
+
+abbrev lone_from_list : Shape
+lone_from_list = shape_of_list lone_labels ((0, 1) ∷ [])
+
+lone_shape : IsShape lone_from_list
+lone_shape = shape_from lone_labels ((0, 1) ∷ []) refl
+
+abbrev all_alone : List (Option ℕ)
+all_alone = Some 0 ∷ Some 1 ∷ Some 2 ∷ []
+
+abbrev two_blocks : List (Option ℕ)
+two_blocks = Some 0 ∷ Some 1 ∷ Some 1 ∷ []
+
+lone_first : Agrees lone_from_list all_alone (Bis lone_from_list 1)
+lone_first = (level_decides lone_from_list lone_shape all_alone 1).0 refl
+
+levels_swapped : (v w : View) → v.block_of ≡ all_alone → w.block_of ≡ two_blocks → Fits A (Some v ∷ Some w ∷ []) lone → ⊥
+levels_swapped v w e f h =
+    let same = shape_from_list (codes "a" ∷ codes "b" ∷ []) lone_labels ((0, 1) ∷ []) in
+    let a = subst (λ s. Agrees s v.block_of (Bis s 0)) same (h.each 0 (omega arith)).agrees in
+    refuted (level_decides lone_from_list lone_shape all_alone 0) refl (subst (λ p. Agrees lone_from_list p (Bis lone_from_list 0)) e a)
+
+-- Blocks that are too coarse, and too fine, for the 1-index and for the forward and backward index: the second b has no
+-- parent, and the two a with one child are alike.
+
+one_too_coarse : (v : View) → v.block_of ≡ two_blocks → Fits One (Some v ∷ []) lone → ⊥
+one_too_coarse v e h =
+    let same = shape_from_list (codes "a" ∷ codes "b" ∷ []) lone_labels ((0, 1) ∷ []) in
+    let s = subst (λ s. Stable s v.block_of) same (h.each 0 (omega arith)).index.stable in
+    refuted (stable_decides lone_from_list lone_shape two_blocks) refl (subst (Stable lone_from_list) e s)
+
+one_too_fine : (v : View) → v.block_of ≡ apart → Fits One (Some v ∷ []) pair → ⊥
+one_too_fine v e h =
+    let same = shape_from_list (codes "a" ∷ codes "b" ∷ []) pair_labels two_edges in
+    let s = subst (λ s. Stable s v.block_of) same (h.each 0 (omega arith)).index.stable in
+    let m = subst (λ s. Minimal s v.block_of) same (h.each 0 (omega arith)).index.minimal in
+    refuted (minimal_decides (shape_of_list pair_labels two_edges) pair_shape apart (subst (Stable (shape_of_list pair_labels two_edges)) e s).partition) refl
+    (subst (Minimal (shape_of_list pair_labels two_edges)) e m)
+
+fb_too_coarse : (v : View) → v.block_of ≡ two_blocks → Fits Fb (Some v ∷ []) lone → ⊥
+fb_too_coarse v e h =
+    let same = shape_from_list (codes "a" ∷ codes "b" ∷ []) lone_labels ((0, 1) ∷ []) in
+    let a = subst (λ s. Agrees s v.block_of (FB s)) same (h.each 0 (omega arith)).agrees in
+    refuted (fb_full_decides lone_from_list lone_shape two_blocks) refl (subst (λ p. Agrees lone_from_list p (FB lone_from_list)) e a)
+
+fb_too_fine : (v : View) → v.block_of ≡ apart → Fits Fb (Some v ∷ []) pair → ⊥
+fb_too_fine v e h =
+    let same = shape_from_list (codes "a" ∷ codes "b" ∷ []) pair_labels two_edges in
+    let a = subst (λ s. Agrees s v.block_of (FB s)) same (h.each 0 (omega arith)).agrees in
+    refuted (fb_full_decides (shape_of_list pair_labels two_edges) pair_shape apart) refl (subst (λ p. Agrees (shape_of_list pair_labels two_edges) p (FB (shape_of_list pair_labels two_edges))) e a)

@@ -1,7 +1,6 @@
 -- What makes a view fit.
-use Rattle.std.proofs.Common.{ℕ, List, Option, refl, arith}
+use Rattle.std.proofs.Common.{ℕ, refl, arith}
 use Rattle.graph_spec.specs.Graphs.{Graph, IsGraph}
-use Rattle.graph_spec.specs.Changes.{Change}
 use Rattle.graph_spec.specs.Shapes.{shape_of}
 use Rattle.graph_spec.proofs.GraphLaws.{is_shape}
 use Rattle.bisim_spec.specs.declared.kind.Kind.{Kind}
@@ -9,7 +8,6 @@ use Rattle.bisim_spec.specs.declared.kind.Kind.TheVariants.{A, One, Fb}
 use Rattle.bisim_spec.specs.Bisimilarity.{Bisim}
 use Rattle.bisim_spec.specs.Partitions.{Agrees}
 use Rattle.bisim_spec.specs.Stability.{Stable, Minimal}
-use Rattle.bisim_spec.specs.OneStep.{OneStep}
 use Rattle.bisim_spec.specs.IndexGraphs.{View, ViewFits}
 use Rattle.bisim_spec.specs.Fits.{FitsOne, HasCount, view_count}
 use Rattle.bisim_spec.proofs.Stable.{bisim_stable, bisim_minimal}
@@ -36,7 +34,3 @@ fits_one g v graph view stable minimal = record {
 pub fits_full : (g : Graph) (v : View) → IsGraph g → ViewFits g v → Agrees (shape_of g) v.block_of (Bisim (shape_of g)) → FitsOne g v
 fits_full g v graph view agrees =
     fits_one g v graph view (bisim_stable (shape_of g) v.block_of (is_shape g graph) agrees) (bisim_minimal (shape_of g) v.block_of (is_shape g graph) agrees)
-
--- and what a partition moves to with a change
-pub fits_moved : (g : Graph) (p : List (Option ℕ)) (c : Change) (g2 : Graph) (v : View) → ViewFits g2 v → OneStep g p c g2 v.block_of → FitsOne g2 v
-fits_moved g p c g2 v view step = record { view = view; index = step.index }

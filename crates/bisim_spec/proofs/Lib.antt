@@ -13,7 +13,7 @@ pub mod Ranks
 pub mod Outside
 pub mod EdgeSets
 pub mod Moves
-pub mod ListedTargets
+pub mod SingleLists
 pub mod Differs
 pub mod Changed
 pub mod EdgeSupports
@@ -21,6 +21,5 @@ pub mod FitLaws
 pub mod StabilityTests
 pub mod WrittenShapes
 pub mod Examples
-pub mod FitExamples
 pub mod WrittenGraphs
-pub mod StepExamples
+pub mod FitExamples

@@ -7,9 +7,8 @@ pub mod Supports
 pub mod IndexGraphs
 pub mod Tests
 pub mod Weights
-pub mod Targets
+pub mod KeptBlocks
 pub mod MinimalIndex
-pub mod OneStep
 pub mod Fits
 pub mod NodeEdges
 pub mod SideEdges

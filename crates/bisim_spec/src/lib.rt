@@ -10,8 +10,8 @@
 //!   blocks.
 //! - `Ranks`: in an acyclic graph a stable partition with no such pair is full bisimilarity; `ring_by_ring_minimal` in `Examples` shows
 //!   that a cycle breaks this.
-//! - `Differs`, `Changed`, `Outside`: a change alters a graph at its target alone; a stable partition is then stable except there; no pair
-//!   of blocks becomes mergeable outside the change's reach.
+//! - `Differs`, `Changed`, `Outside`: where a node or an edge comes or goes a graph differs at one node; a stable partition is then stable
+//!   except at the targets; no pair of blocks becomes mergeable outside the change's reach.
 //! - `Moves`, `Supported`: what a moved node and an edge added or removed do to supports; a pair has support exactly if an edge joins the
 //!   two blocks.
 //! - `FitLaws`: which views fit the 1-index.

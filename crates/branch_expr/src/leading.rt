@@ -26,21 +26,6 @@ fn far_program(alloc: Global) -> Result<Program, Memory>
     Ok(program)
 }
 
-/// The members of the set, rising.
-fn members(alloc: Global, set: &Bits) -> Result<Vec<u32>, Memory>
-    ensures { IfOk result (λ l. HasJust l.items (IsMember set.now.members)) }
-{
-    let mut list = Vec::new(alloc);
-    // Called for its contract: the members are below the size.
-    let _known = set.size();
-    let mut from = 0;
-    while let Some(n) = set.next_from(from) {
-        list.push(n)?;
-        from = n + 1;
-    }
-    Ok(list)
-}
-
 /// Puts the children of a node into a set.
 fn insert_children<G: Digraph>(g: &G, n: u32, set: &mut Bits)
     requires node { IsSome (G.label_at g.now n) }
@@ -162,7 +147,7 @@ fn far<G: Digraph>(alloc: Global, g: &G, set: &Bits) -> Result<Bits, Memory>
     ensures image { IfOk result (λ b. HasJust b.members (Image (Reaches (G.edge g.now)) (IsMember set.now.members))) }
 {
     let program = far_program(alloc)?;
-    let places = members(alloc, set)?;
+    let places = set.list(alloc)?;
     search(alloc, g, &program, 1, &places)
 }
 

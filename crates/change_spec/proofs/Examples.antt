@@ -1,19 +1,26 @@
 -- Changes at worked values, and at near misses.
-use Rattle.std.proofs.Common.{◌≡◌, ℕ, true, false, Bool, List, [], ◌∷◌, Option, None, Some, Ok, Err, refl}
-use Rattle.std.specs.Prelude.{codes}
+use Rattle.std.proofs.Common.{◌≡◌, true, false, [], ◌∷◌, None, Some, Ok, Err, refl, ap, ◌∙◌}
+use Rattle.std.specs.Prelude.{codes, if◌then◌else◌}
 use Rattle.std.specs.FinSet as set
-use Rattle.graph_spec.specs.declared.refusal.Refusal.TheVariants.{NoNode, Limit}
+use Rattle.graph_spec.specs.declared.refusal.Refusal.TheVariants.{NoNode, NoEdge}
 use Rattle.graph_spec.specs.declared.limits.Limits.{Limits}
 use Rattle.graph_spec.specs.ProgramLimits.{program_limits}
-use Rattle.graph_spec.specs.Graphs.{Graph, empty_graph}
-use Rattle.graph_spec.specs.Changes.{with_node}
-use Rattle.change_spec.specs.Steps.{Step, node, link, unlink, drop, relabel, apply, after, is_new}
+use Rattle.graph_spec.specs.Graphs.{Graph, empty_graph, edge_cmp, has_edge}
+use Rattle.graph_spec.specs.Changes.{with_node, with_edge, without_edge}
+use Rattle.change_spec.specs.Steps.{node, link, unlink, drop, relabel, and_then, apply, after, is_new, without_node}
 use Rattle.change_spec.specs.Altered.{targets}
-use Rattle.change_spec.specs.Named.{is_named, is_dropped}
+use Rattle.change_spec.specs.Named.{is_named}
+use Rattle.graph_spec.proofs.EdgeOrder.{edge_cmp_total}
+use Rattle.std.proofs.Math.Bool.{and-false}
+use Rattle.change_spec.proofs.StepGraphs.{edge_dropped}
 use Rattle.change_spec.specs.Shown.{shown_parents, shown_children}
 
 abbrev one : Graph
 one = with_node empty_graph (codes "a")
+
+-- two nodes, and an edge from the first to the second
+abbrev joined : Graph
+joined = with_edge (with_node one (codes "b")) 0 1
 
 -- no steps leave the graph as it is
 nothing : (g : Graph) (limits : Limits) → apply [] g limits ≡ Ok g
@@ -38,6 +45,21 @@ dropped = refl
 
 gone : apply (drop 0 ∷ relabel 0 (codes "b") ∷ []) one program_limits ≡ Err NoNode
 gone = refl
+
+-- an edge that is there can be taken away, and not the one the other way round; a drop takes the node's edges along
+unlinked : (limits : Limits) → apply (unlink 0 1 ∷ []) joined limits ≡ Ok (without_edge joined 0 1)
+unlinked limits = ap (λ b. and_then (if b then Ok (without_edge joined 0 1) else Err NoEdge) (λ h. Ok h)) (set.contains-insert edge_cmp_total set.empty (0, 1) (0, 1))
+
+unlinked_back : (limits : Limits) → apply (unlink 1 0 ∷ []) joined limits ≡ Err NoEdge
+unlinked_back limits =
+    ap (λ b. and_then (if b then Ok (without_edge joined 1 0) else Err NoEdge) (λ h. Ok h))
+    (set.contains-insert edge_cmp_total set.empty (0, 1) (1, 0) ∙ set.contains-empty edge_cmp (1, 0))
+
+dropped_end : (limits : Limits) → apply (drop 1 ∷ []) joined limits ≡ Ok (without_node joined 1)
+dropped_end limits = refl
+
+taken_along : has_edge (without_node joined 1) 0 1 ≡ false
+taken_along = edge_dropped joined 1 0 1 ∙ and-false (has_edge joined 0 1)
 
 -- a label that the node has makes nothing new, nor does it make the node a target
 same_label : is_new (relabel 0 (codes "a") ∷ []) one ≡ false

@@ -1,9 +1,7 @@
 -- The first steps of a list, and the others.
-use Rattle.std.proofs.Common.{◌≡◌, ℕ, zero, suc, ◌+◌, ◌<◌, ◌≤◌, Bool, true, false, List, [], ◌∷◌, ◌++◌, length, Ok, Err, refl, sym, ap, ◌∙◌, arith, take, drop, get_or}
-use Rattle.std.specs.Prelude.{◌||◌, ◌&&◌, not, Result}
-use Rattle.std.proofs.lemmas.Bool.{cases_Bool}
+use Rattle.std.proofs.Common.{◌≡◌, Bool, true, false, List, [], ◌∷◌, ◌++◌, Ok, refl, sym, ap, ◌∙◌}
+use Rattle.std.specs.Prelude.{◌||◌, not}
 use Rattle.graph_spec.specs.declared.limits.Limits.{Limits}
-use Rattle.graph_spec.specs.declared.refusal.Refusal.{Refusal}
 use Rattle.graph_spec.specs.Graphs.{Graph}
 use Rattle.change_spec.proofs.StepGraphs.{first_made}
 use Rattle.change_spec.specs.Steps.{Step, made, after, and_then, apply_step, apply_all, is_new, is_idle}

@@ -1,13 +1,13 @@
 -- How many edges pass a test, once an edge comes or goes.
-use Rattle.std.proofs.Common.{◌≡◌, ℕ, zero, suc, ◌+◌, ◌-◌, ◌<◌, ◌≤◌, Bool, true, false, cond, refl, sym, ap, ◌∙◌, arith, inl, inr, true≢false}
+use Rattle.std.proofs.Common.{◌≡◌, ℕ, zero, suc, ◌+◌, ◌-◌, Bool, true, false, cond, refl, sym, ap, ◌∙◌, arith, inl, inr}
 use Rattle.std.specs.Prelude.{◌&&◌, ◌||◌, not}
 use Rattle.std.specs.FinSet as set
 use Rattle.std.proofs.Math.Bool.{and-false, and-true}
-use Rattle.std.proofs.lemmas.Bool.{cases_Bool, and_parts, and_from}
-use Rattle.graph_spec.specs.Graphs.{Edges, edge_cmp}
+use Rattle.std.proofs.lemmas.Bool.{cases_Bool, and_from}
+use Rattle.graph_spec.specs.Graphs.{Edges}
 use Rattle.graph_spec.proofs.EdgeOrder.{edge_cmp_total}
 use Rattle.bisim_spec.proofs.BelowLaws.{bit_of}
-use Rattle.bisim_spec.proofs.EdgeSets.{eq, eq_is, eq_self, kept, same_len, some_len, member_of, kept_len}
+use Rattle.bisim_spec.proofs.EdgeSets.{eq, eq_is, kept, same_len, some_len, member_of, kept_len}
 
 pub removed_len : (s : Edges) (k : ℕ × ℕ) → set.contains s k ≡ true → set.len (set.remove s k) ≡ set.len s - 1
 removed_len s k e = set.len-remove edge_cmp_total s k ∙ ap (λ b. cond b (set.len s - 1) (set.len s)) e

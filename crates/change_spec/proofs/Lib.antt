@@ -12,3 +12,4 @@ pub mod RoundBounds
 pub mod ShownCounts
 pub mod Accepted
 pub mod Examples
+pub mod StepExamples

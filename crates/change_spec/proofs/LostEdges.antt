@@ -1,10 +1,10 @@
 -- What a change takes away from the nodes that stay: an edge goes by an unlink, or with a node at its other end. So there is no more than
 -- a step for each of the first, and the weight of the node for the others.
-use Rattle.std.proofs.Common.{◌≡◌, ◌≢◌, ◌⊎◌, ℕ, zero, suc, ◌+◌, ◌*◌, ◌<◌, ◌≤◌, Bool, true, false, cond, List, [], ◌∷◌, length, IsTrue, IsFalse, refl, sym, ap, ◌∙◌, subst, arith, nat_eq, inl, inr, true≢false}
+use Rattle.std.proofs.Common.{◌≡◌, ◌⊎◌, ℕ, zero, suc, ◌+◌, ◌<◌, ◌≤◌, Bool, true, false, cond, List, [], ◌∷◌, length, refl, sym, ap, ◌∙◌, subst, arith, nat_eq, inl, inr, true≢false}
 use Rattle.std.specs.Prelude.{◌&&◌, ◌||◌, not, if◌then◌else◌}
 use Rattle.std.specs.List.{list_any}
-use Rattle.std.proofs.Math.Bool.{and-false, and-true, or-false, or-true}
-use Rattle.std.proofs.lemmas.Bool.{cases_Bool, and_parts, and_from, or_cases, or_parts, not-true, or_left, or_right}
+use Rattle.std.proofs.Math.Bool.{and-false, and-true, or-true}
+use Rattle.std.proofs.lemmas.Bool.{cases_Bool, and_parts, and_from, or_cases, or_parts}
 use Rattle.std.proofs.lemmas.Bool.Decides.{eqb_tells}
 use Rattle.graph_spec.specs.Graphs.{Graph, IsGraph, is_live, has_edge}
 use Rattle.graph_spec.specs.Shapes.{shape_of}
@@ -12,7 +12,7 @@ use Rattle.graph_spec.proofs.GraphLaws.{edge_with, edge_without}
 use Rattle.bisim_spec.specs.Below.{count_below, sum_below}
 use Rattle.bisim_spec.specs.Weights.{child_count, parent_count, weight_at, weight}
 use Rattle.bisim_spec.proofs.BelowLaws.{bit_of}
-use Rattle.change_spec.specs.Steps.{Step, node, link, unlink, drop, relabel, without_node, made, after}
+use Rattle.change_spec.specs.Steps.{Step, node, link, unlink, drop, relabel, made, after}
 use Rattle.change_spec.specs.Places.{CanMake, CanMakeAll}
 use Rattle.change_spec.specs.Costs.{is_gone}
 use Rattle.change_spec.specs.Lost.{is_lost, lost_onto, lost_from}

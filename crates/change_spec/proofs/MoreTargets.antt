@@ -1,9 +1,6 @@
 -- What is near some targets is near more of them.
-use Rattle.std.proofs.Common.{◌≡◌, ◌≤◌, ◌⊎◌, ℕ, zero, suc, Bool, true, false, inl, inr, IsTrue, arith}
-use Rattle.std.specs.Prelude.{◌&&◌, ◌||◌}
-use Rattle.std.proofs.lemmas.Bool.{or_cases, or_left, or_right, and_parts, and_from, cases_Bool}
+use Rattle.std.proofs.Common.{◌≡◌, ℕ, zero, suc, Bool, true, inl, inr}
 use Rattle.graph_spec.specs.Shapes.{Shape, IsShape}
-use Rattle.bisim_spec.specs.Below.{any_below}
 use Rattle.bisim_spec.specs.Reach.{within_distance, reach}
 use Rattle.bisim_spec.proofs.Reached.{within_cases, within_next, within_step}
 

@@ -1,16 +1,15 @@
 -- What is live once steps are made, and what steps concern, by the nodes that they name.
-use Rattle.std.proofs.Common.{length-append, ◌≡◌, ◌≢◌, ◌⊎◌, ℕ, suc, ◌+◌, ◌<◌, ◌≤◌, Bool, true, false, List, [], ◌∷◌, length, Option, Some, None, IsTrue, refl, sym, ap, ◌∙◌, arith, inl, inr, nat_eq, nat_lt, true≢false}
-use Rattle.std.specs.Prelude.{◌||◌, ◌&&◌, not, nat_le}
-use Rattle.std.specs.List.{list_any}
-use Rattle.std.proofs.Math.Bool.{or-true, or-false, and-false, and-true}
-use Rattle.std.proofs.lemmas.Bool.{cases_Bool, or_parts, and_parts, cases_lt}
+use Rattle.std.proofs.Common.{length-append, ◌≡◌, ◌≢◌, ◌⊎◌, ℕ, ◌+◌, ◌<◌, ◌≤◌, Bool, true, false, List, [], ◌∷◌, length, Some, None, refl, sym, ap, ◌∙◌, arith, inl, inr, nat_eq, nat_lt, true≢false}
+use Rattle.std.specs.Prelude.{◌||◌, ◌&&◌, not}
+use Rattle.std.proofs.Math.Bool.{and-false, and-true}
+use Rattle.std.proofs.lemmas.Bool.{cases_Bool, or_parts}
 use Rattle.std.proofs.lemmas.Bool.Decides.{eqb_tells, nat_tests}
-use Rattle.graph_spec.specs.Graphs.{Graph, IsGraph, is_live, has_edge}
+use Rattle.graph_spec.specs.Graphs.{Graph, is_live}
 use Rattle.change_spec.specs.Steps.{Step, node, link, unlink, drop, relabel, made, after}
-use Rattle.change_spec.specs.Places.{CanMake, CanMakeAll}
+use Rattle.change_spec.specs.Places.{CanMakeAll}
 use Rattle.change_spec.specs.Named.{names, is_named, takes_away, is_dropped}
 use Rattle.change_spec.specs.Shown.{concerns, concerned, new_parents, new_children}
-use Rattle.change_spec.proofs.StepPlaces.{live_added, live_dropped, live_labelled, live_given, given_set, given_made, dropped_gone}
+use Rattle.change_spec.proofs.StepPlaces.{live_added, live_dropped, live_labelled, live_given, given_set, given_made}
 
 -- ---- what is live
 

@@ -1,18 +1,18 @@
 -- What is read at nodes that are live after a change: a search that reads their children no more than their cost, and a round
 -- over them no more than three times that.
-use Rattle.std.proofs.Common.{◌≡◌, ℕ, zero, suc, ◌+◌, ◌-◌, ◌*◌, ◌<◌, ◌≤◌, Bool, true, false, cond, List, [], ◌∷◌, length, IsTrue, refl, sym, ap, ◌∙◌, subst, arith, inl, inr, true≢false, is_some}
+use Rattle.std.proofs.Common.{◌≡◌, ℕ, zero, suc, ◌+◌, ◌-◌, ◌*◌, ◌≤◌, Bool, true, false, cond, List, [], ◌∷◌, length, refl, ap, ◌∙◌, arith, inl, inr}
 use Rattle.std.specs.Prelude.{◌&&◌, not, if◌then◌else◌}
-use Rattle.std.proofs.lemmas.Bool.{cases_Bool, cases_lt}
+use Rattle.std.proofs.lemmas.Bool.{cases_Bool}
 use Rattle.graph_spec.specs.Graphs.{Graph, IsGraph, is_live, has_edge}
 use Rattle.graph_spec.specs.Shapes.{shape_of}
 use Rattle.bisim_spec.specs.Below.{count_below, sum_below}
-use Rattle.bisim_spec.specs.Weights.{parent_count, child_count, weight_at, weight}
+use Rattle.bisim_spec.specs.Weights.{weight_at}
 use Rattle.bisim_spec.proofs.BelowLaws.{bit_of}
 use Rattle.change_spec.specs.Steps.{Step, made, after}
 use Rattle.change_spec.specs.Places.{CanMakeAll}
-use Rattle.change_spec.specs.Costs.{cost, is_gone}
+use Rattle.change_spec.specs.Costs.{cost}
 use Rattle.change_spec.specs.Lost.{is_lost, lost_onto, lost_from}
-use Rattle.change_spec.specs.Bounds.{parents_cost, children_cost, round_cost}
+use Rattle.change_spec.specs.Bounds.{children_cost, round_cost}
 use Rattle.change_spec.proofs.StepPlaces.{given_made, live_given}
 use Rattle.change_spec.proofs.LostEdges.{lost_onto_few, lost_from_few}
 

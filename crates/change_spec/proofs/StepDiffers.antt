@@ -1,12 +1,12 @@
 -- A change alters a graph at its targets alone.
-use Rattle.std.proofs.Common.{◌≡◌, ◌≢◌, ◌⊎◌, ℕ, zero, suc, Bool, true, false, List, [], ◌∷◌, length, Option, Some, None, IsTrue, IsFalse, refl, sym, ap, ◌∙◌, subst, nat_eq, inl, inr, true≢false, is_some}
-use Rattle.std.specs.Prelude.{◌||◌, ◌&&◌, not, bytes_eq, slice_set}
+use Rattle.std.proofs.Common.{◌≡◌, ◌≢◌, ℕ, zero, suc, Bool, true, false, List, [], ◌∷◌, Option, Some, None, IsTrue, IsFalse, refl, sym, ap, ◌∙◌, subst, nat_eq, inl, inr, true≢false, is_some}
+use Rattle.std.specs.Prelude.{◌||◌, ◌&&◌, not, slice_set}
 use Rattle.std.proofs.Math.Bool.{and-false, and-true}
-use Rattle.std.proofs.lemmas.Bool.{cases_Bool, and_parts, or_parts, not_from_false, false_from_ne_true, both_ways, and_from}
+use Rattle.std.proofs.lemmas.Bool.{cases_Bool, or_parts}
 use Rattle.std.proofs.lemmas.Bool.Decides.{eqb_tells}
 use Rattle.std.proofs.lemmas.Slice.Eq.{bytes_eq-Decides}
 use Rattle.graph_spec.specs.Graphs.{Graph, label_of, is_live, has_edge}
-use Rattle.graph_spec.specs.Changes.{with_node, with_edge, without_edge}
+use Rattle.graph_spec.specs.Changes.{with_edge}
 use Rattle.graph_spec.specs.Shapes.{Shape, IsNode, shape_of}
 use Rattle.graph_spec.proofs.GraphLaws.{edge_with}
 use Rattle.bisim_spec.proofs.Differs.{differs_node, differs_unlink}

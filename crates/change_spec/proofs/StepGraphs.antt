@@ -1,16 +1,14 @@
 -- A graph stays one where steps are made.
-use Rattle.std.proofs.Common.{◌≡◌, ◌≢◌, ◌⊎◌, ℕ, zero, suc, ◌<◌, ◌≤◌, Bool, true, false, List, [], ◌∷◌, ◌++◌, length, Option, Some, None, Ok, Err, refl, sym, ap, ◌∙◌, subst, nat_eq, arith, inl, inr, true≢false}
-use Rattle.std.specs.Prelude.{◌||◌, ◌&&◌, not, IsTrue, IsSome, Result, is_some, slice_get, slice_set, option_and_then, if◌then◌else◌, bytes_eq, nat_le}
-use Rattle.std.specs.FinSet as set
-use Rattle.std.proofs.lemmas.Bool.{cases_Bool, and_parts, or_parts, eqb-true, not-true}
+use Rattle.std.proofs.Common.{◌≡◌, ◌≢◌, ℕ, zero, suc, Bool, true, false, List, [], ◌∷◌, ◌++◌, length, Option, Some, None, Ok, Err, refl, sym, ap, ◌∙◌, subst, nat_eq, inl, inr, true≢false}
+use Rattle.std.specs.Prelude.{◌||◌, ◌&&◌, not, IsTrue, IsSome, Result, is_some, slice_get, slice_set, option_and_then, if◌then◌else◌, nat_le}
+use Rattle.std.proofs.lemmas.Bool.{and_parts, or_parts, not-true}
 use Rattle.std.proofs.lemmas.Bool.Decides.{eqb_tells}
 use Rattle.graph_spec.specs.declared.limits.Limits.{Limits}
 use Rattle.graph_spec.specs.declared.refusal.Refusal.{Refusal}
 use Rattle.graph_spec.specs.declared.refusal.Refusal.TheVariants.{NoNode, NoEdge, Limit}
 use Rattle.graph_spec.specs.Graphs.{Graph, IsGraph, label_of, is_live, has_edge, is_seen}
 use Rattle.graph_spec.specs.Changes.{with_label, with_node, with_edge, without_edge, node_fits, edge_fits}
-use Rattle.graph_spec.proofs.GraphLaws.{graph_with_node, graph_with_edge, graph_without_edge, is_shape}
-use Rattle.graph_spec.specs.Shapes.{shape_of}
+use Rattle.graph_spec.proofs.GraphLaws.{graph_with_node, graph_with_edge, graph_without_edge}
 use Rattle.bisim_spec.proofs.EdgeSets.{kept}
 use Rattle.change_spec.specs.Steps.{Step, node, link, unlink, drop, relabel, touches, without_node, labelled, made, label_fits, apply_step, and_then, apply_all, apply, after, MOST_STEPS}
 

@@ -1,15 +1,15 @@
 -- Steps whose nodes and edges are there, one after another.
-use Rattle.std.proofs.Common.{◌≡◌, ◌≢◌, ℕ, zero, suc, ◌+◌, ◌<◌, ◌≤◌, Bool, true, false, List, [], ◌∷◌, ◌++◌, length, Option, Some, None, IsTrue, refl, sym, ap, ◌∙◌, arith, nat_eq, inl, inr, is_some, true≢false, subst}
-use Rattle.std.specs.Prelude.{◌&&◌, ◌||◌, not, option_and_then, slice_get, slice_set, bytes_eq}
+use Rattle.std.proofs.Common.{◌≡◌, ◌≢◌, ℕ, zero, suc, ◌<◌, ◌≤◌, false, List, [], ◌∷◌, ◌++◌, length, Option, Some, None, IsTrue, refl, sym, ap, ◌∙◌, arith, nat_eq, inl, inr, is_some, true≢false}
+use Rattle.std.specs.Prelude.{◌&&◌, ◌||◌, not, option_and_then, slice_get, slice_set}
 use Rattle.std.proofs.Math.Bool.{or-false, and-false, and-true}
-use Rattle.std.proofs.lemmas.Bool.{cases_Bool, cases_lt}
+use Rattle.std.proofs.lemmas.Bool.{cases_lt}
 use Rattle.std.proofs.lemmas.Bool.Decides.{eqb_tells}
-use Rattle.std.proofs.lemmas.List.{length-append, length-set}
+use Rattle.std.proofs.lemmas.List.{length-append}
 use Rattle.std.proofs.lemmas.Option.{slice_get_past}
-use Rattle.graph_spec.specs.Graphs.{Graph, IsGraph, label_of, is_live, has_edge}
+use Rattle.graph_spec.specs.Graphs.{Graph, IsGraph, label_of, is_live}
 use Rattle.graph_spec.proofs.GraphLaws.{graph_with_node, graph_with_edge, graph_without_edge}
 use Rattle.graph_spec.specs.Changes.{with_node}
-use Rattle.change_spec.specs.Steps.{Step, node, link, unlink, drop, relabel, without_node, labelled, made, after, is_text}
+use Rattle.change_spec.specs.Steps.{Step, node, link, unlink, drop, relabel, without_node, labelled, made, after}
 use Rattle.change_spec.specs.Places.{CanMake, CanMakeAll}
 use Rattle.change_spec.proofs.StepGraphs.{label_other, label_gone, label_given, graph_dropped, graph_labelled}
 

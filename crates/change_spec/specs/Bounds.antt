@@ -1,5 +1,5 @@
 -- What rounds over a set of nodes may read.
-use Rattle.std.specs.Prelude.{ℕ, ◌+◌, ◌*◌, Bool, if◌then◌else◌}
+use Rattle.std.specs.Prelude.{ℕ, ◌+◌, ◌*◌}
 use Rattle.graph_spec.specs.Graphs.{Graph}
 use Rattle.graph_spec.specs.Shapes.{shape_of}
 use Rattle.bisim_spec.specs.Weights.{parent_count, child_count}

@@ -1,7 +1,7 @@
 -- Edges that a change takes away from nodes that stay.
-use Rattle.std.specs.Prelude.{ℕ, ◌&&◌, not, Bool, length, if◌then◌else◌}
-use Rattle.graph_spec.specs.Graphs.{Graph, is_live, has_edge}
-use Rattle.bisim_spec.specs.Below.{count_below, sum_below}
+use Rattle.std.specs.Prelude.{ℕ, ◌&&◌, not, Bool, length}
+use Rattle.graph_spec.specs.Graphs.{Graph, has_edge}
+use Rattle.bisim_spec.specs.Below.{count_below}
 
 -- the edge is in the graph before, and not in that after
 abbrev pub is_lost : Graph → Graph → ℕ → ℕ → Bool

@@ -1,11 +1,11 @@
 -- How the partition of the 1-index moves with a change that is a list of steps.
 use Rattle.std.specs.Prelude.{◌≡◌, ◌↔◌, ℕ, List, [], ◌∷◌, Option, IsFalse}
 use Rattle.graph_spec.specs.Graphs.{Graph}
-use Rattle.graph_spec.specs.Shapes.{Shape, IsNode, shape_of}
+use Rattle.graph_spec.specs.Shapes.{IsNode, shape_of}
 use Rattle.bisim_spec.specs.Partitions.{Together}
 use Rattle.bisim_spec.specs.Reach.{reach}
 use Rattle.bisim_spec.specs.MinimalIndex.{IsMinimalIndex}
-use Rattle.bisim_spec.specs.Targets.{HasOther}
+use Rattle.bisim_spec.specs.KeptBlocks.{HasOther}
 use Rattle.change_spec.specs.Steps.{Step, node, link, unlink, drop, relabel, after}
 use Rattle.change_spec.specs.Altered.{targets}
 

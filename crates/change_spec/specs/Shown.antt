@@ -1,5 +1,5 @@
 -- The neighbours of a node in the graph that steps will leave, by those that it has and the steps.
-use Rattle.std.specs.Prelude.{ℕ, ◌||◌, ◌&&◌, not, Bool, true, false, List, [], ◌∷◌, ◌++◌, nat_eq, if◌then◌else◌}
+use Rattle.std.specs.Prelude.{ℕ, ◌||◌, ◌&&◌, not, Bool, false, List, [], ◌∷◌, ◌++◌, nat_eq, if◌then◌else◌}
 use Rattle.std.specs.List.{list_any, filter}
 use Rattle.change_spec.specs.Steps.{Step, node, link, unlink, drop, relabel}
 

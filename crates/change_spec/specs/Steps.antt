@@ -1,5 +1,5 @@
 -- The steps of a change, and what a graph becomes by each of them and by a list of them.
-use Rattle.std.specs.Prelude.{ℕ, ◌||◌, ◌&&◌, not, Bool, true, false, List, [], ◌∷◌, ◌++◌, length, if◌then◌else◌, nat_lt, nat_le, nat_eq, slice_set, Option, Some, None, Result, Ok, Err, bytes_eq}
+use Rattle.std.specs.Prelude.{ℕ, ◌||◌, ◌&&◌, not, Bool, false, List, [], ◌∷◌, length, if◌then◌else◌, nat_lt, nat_le, nat_eq, slice_set, Option, Some, None, Result, Ok, Err, bytes_eq}
 use Rattle.std.specs.FinSet as set
 use Rattle.graph_spec.specs.declared.limits.Limits.{Limits}
 use Rattle.graph_spec.specs.declared.refusal.Refusal.{Refusal}

@@ -10,5 +10,5 @@
 //! - `ShownNeighbours`, `ShownCounts`, `NamedNodes`: the neighbours that are shown are those of the graph after; how many
 //!   come and go; what isn't named isn't concerned.
 //! - `KeptEdges`: how many edges pass a test, once an edge comes or goes.
-//! - `Examples`: worked values, and near misses.
+//! - `Examples`, `StepExamples`: worked values, and near misses.
 #![tactic(auto)]

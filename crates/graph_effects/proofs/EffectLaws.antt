@@ -13,10 +13,11 @@ use Rattle.label_graph.proofs.Positions.{text-at, position-at}
 use Rattle.bisim_spec.specs.Partitions.{IsPartition}
 use Rattle.bisim_spec.proofs.Bisimilar.{is_some_at, some_of}
 use Rattle.bisim_spec.proofs.Outside.{DiffersAt}
-use Rattle.one_spec.specs.BlockLabels.{BlocksHaveLabels}
+use Rattle.one_spec.specs.BlockLabels.{BlocksHaveLabels, BlocksHaveLabelsBut}
 use Rattle.one_spec.specs.EdgeCounts.{AreEdgeCounts}
-use Rattle.graph_effects.specs.Effects.{EffectLists, AreEffects, has_pair, without_edges, with_edges, is_new_node, is_new_edge}
+use Rattle.graph_effects.specs.Effects.{EffectLists, AreEffects, has_pair, without_edges, with_edges, is_same_label}
 use Rattle.graph_effects.specs.EffectBlocks.{HaveNodesMoved}
+use Rattle.graph_effects.proofs.Relabelled.{same_text}
 use Rattle.graph_effects.proofs.EdgeLists.{edge_left, edge_there, AreEdges, AreNoEdges, counts_same}
 
 -- ---- nodes
@@ -61,6 +62,24 @@ live_stayed g g2 e n w live = false_from_ne_true (has e.gone n) (λ h. true≢fa
 -- a node of the first graph hasn't come
 pub live_was : (g g2 : Graph) (e : EffectLists) (n : ℕ) → AreEffects g g2 e → IsTrue (is_live g n) → IsFalse (has e.came n)
 live_was g g2 e n w live = false_from_ne_true (has e.came n) (λ h. true≢false (sym live ∙ (came_parts g g2 e n w h).1))
+
+-- ---- labels that stay
+
+-- a node that gets another label is one of both graphs
+pub relabelled_parts : (g g2 : Graph) (e : EffectLists) (n : ℕ) → AreEffects g g2 e → IsTrue (has e.relabelled n) → IsTrue (is_live g n) × IsTrue (is_live g2 n)
+relabelled_parts g g2 e n w h =
+    and_parts (is_live g n) (is_live g2 n) (and_parts (is_live g n && is_live g2 n) (not (is_same_label (label_of g n) (label_of g2 n))) (sym (w.relabelled.members n) ∙ h)).0
+
+-- a node of both graphs that gets no other label keeps its own
+pub label_kept : (g g2 : Graph) (e : EffectLists) (n : ℕ) → AreEffects g g2 e → IsTrue (is_live g n) → IsTrue (is_live g2 n) → IsFalse (has e.relabelled n) → label_of g2 n ≡ label_of g n
+label_kept g g2 e n w live live2 off =
+    same_text (label_of g n) (label_of g2 n) (one (is_live g n) (is_live g2 n) (is_same_label (label_of g n) (label_of g2 n)) live live2 (sym (w.relabelled.members n) ∙ off))
+  where
+    one : (a b s : Bool) → a ≡ true → b ≡ true → ((a && b) && not s) ≡ false → s ≡ true
+    one true true true h k off = refl
+    one true true false h k off = sym off
+    one true false s h k off = absurd (true≢false (sym k))
+    one false b s h k off = absurd (true≢false (sym h))
 
 -- ---- edges
 
@@ -127,7 +146,8 @@ no_change false false h k = refl
 
 pub effects_label : (g g2 : Graph) (e : EffectLists) (n : ℕ) → AreEffects g g2 e → IsNode (shape_of g2) n → IsFalse (has e.targets n) → label_of g n ≡ label_of g2 n
 effects_label g g2 e n w live off =
-    sym (w.label n (was_live g g2 e n w live (false_from_ne_true (has e.came n) (λ h. true≢false (sym (w.target_came n h) ∙ off)))) live)
+    sym (label_kept g g2 e n w (was_live g g2 e n w live (false_from_ne_true (has e.came n) (λ h. true≢false (sym (w.target_came n h) ∙ off)))) live
+    (false_from_ne_true (has e.relabelled n) (λ h. true≢false (sym (w.target_relabelled n h) ∙ off))))
 
 pub effects_edge : (g g2 : Graph) (e : EffectLists) (p n : ℕ) → AreEffects g g2 e → IsNode (shape_of g2) n → IsFalse (has e.targets n) → has_edge g p n ≡ has_edge g2 p n
 effects_edge g g2 e p n w live off =
@@ -140,11 +160,12 @@ effects_differ g g2 e w = record { label = λ n live off. effects_label g g2 e n
 
 -- ---- labels
 
--- a node of both graphs keeps the number of its label
-pub number_kept : (g g2 : Graph) (e : EffectLists) (n d : ℕ) → AreEffects g g2 e → IsGraph g2 → IsTrue (is_live g n) → IsTrue (is_live g2 n) → label_number g n ≡ Some d → label_number g2 n ≡ Some d
-number_kept g g2 e n d w graph live live2 h =
+-- a node of both graphs that gets no other label keeps the number of its label
+pub number_kept : (g g2 : Graph) (e : EffectLists) (n d : ℕ) → AreEffects g g2 e → IsGraph g2 → IsTrue (is_live g n) → IsTrue (is_live g2 n) → IsFalse (has e.relabelled n)
+    → label_number g n ≡ Some d → label_number g2 n ≡ Some d
+number_kept g g2 e n d w graph live live2 off h =
     let t = text_of (label_of g n) g.seen d h in
-    ap (option_and_then (λ s. position (bytes_eq s) g2.seen)) (w.label n live live2 ∙ t.2) ∙ position-at g2.seen d t.0 graph.distinct (w.seen d t.0 t.1)
+    ap (option_and_then (λ s. position (bytes_eq s) g2.seen)) (label_kept g g2 e n w live live2 off ∙ t.2) ∙ position-at g2.seen d t.0 graph.distinct (w.seen d t.0 t.1)
   where
     text_of : (o : Option (List ℕ)) (seen : List (List ℕ)) (d : ℕ) → option_and_then (λ t. position (bytes_eq t) seen) o ≡ Some d
         → (t : List ℕ) × (slice_get seen d ≡ Some t) × (o ≡ Some t)
@@ -237,23 +258,23 @@ moved_partition g g2 e base block labels w partition m = record {
   ];
 }
 
--- and blocks have the labels of their members
+-- and blocks have the labels of their members, but for those that get another label
 pub moved_named : (g g2 : Graph) (e : EffectLists) (base block : List (Option ℕ)) (base_labels labels : ℕ → Option ℕ) → AreEffects g g2 e → IsGraph g2 → IsPartition (shape_of g) base
     → BlocksHaveLabels base base_labels (label_number g) → ((c l : ℕ) → base_labels c ≡ Some l → labels c ≡ Some l) → HaveNodesMoved g2 base block labels e.came e.gone
-    → BlocksHaveLabels block labels (label_number g2)
+    → BlocksHaveLabelsBut (has e.relabelled) block labels (label_number g2)
 moved_named g g2 e base block base_labels labels w graph partition named kept m = record {
-  is = λ n b here. elim (cases_Bool (has e.came n)) [
+  is = λ n b same here. elim (cases_Bool (has e.came n)) [
     | inl on ↦ (
         let r = m.joined n on in
-        let same : r.0 ≡ b = same_some r.0 b (sym r.2 ∙ here) in
-        (r.1, ap labels (sym same) ∙ r.3, r.4))
+        let one : r.0 ≡ b = same_some r.0 b (sym r.2 ∙ here) in
+        (r.1, ap labels (sym one) ∙ r.3, r.4))
     | inr off ↦ elim (cases_Bool (has e.gone n)) [
       | inl went ↦ absurd (none_some b (sym (m.left n went) ∙ here))
       | inr stayed ↦ (
           let there = sym (m.others n off stayed) ∙ here in
           let live = partition.only n (is_some_at (at base n) b there) in
           let r = named.is n b there in
-          (r.0, kept b r.0 r.1, number_kept g g2 e n r.0 w graph live (stays_live g g2 e n w live stayed) r.2))
+          (r.0, kept b r.0 r.1, number_kept g g2 e n r.0 w graph live (stays_live g g2 e n w live stayed) same r.2))
     ]
   ];
 }

@@ -46,7 +46,7 @@ none_in eq x (y ∷ ys) h = (first (eq x y) (list_any (eq x) ys) h, none_in eq x
     second true b h = absurd (true≢false h)
     second false b h = h
 
-no_numbers : IsDistinct nat_eq []
+pub no_numbers : IsDistinct nat_eq []
 unfolding IsDistinct
 no_numbers = tt
 

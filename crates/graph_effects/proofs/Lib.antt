@@ -3,4 +3,5 @@ pub mod EffectLaws
 pub mod GoneNodes
 pub mod NamedPairs
 pub mod GoneEdges
+pub mod Relabelled
 pub mod StepEffects

@@ -1,72 +1,26 @@
 -- The effects of a list of steps lead from the graph before to that after.
-use Rattle.std.proofs.Common.{◌≡◌, ◌≢◌, ◌⊎◌, ℕ, zero, suc, ◌+◌, ◌≤◌, Bool, true, false, List, [], ◌∷◌, ◌++◌, length, Some, None, is_some, refl, sym, ap, ◌∙◌, subst, arith, inl, inr, true≢false, cond}
-use Rattle.std.specs.Prelude.{nat_eq, ◌&&◌, ◌||◌, not, slice_get}
+use Rattle.std.proofs.Common.{◌≡◌, ◌≢◌, ◌⊎◌, ℕ, ◌≤◌, Bool, true, false, List, [], ◌∷◌, ◌++◌, length, is_some, refl, sym, ap, ◌∙◌, arith, inl, inr, true≢false}
+use Rattle.std.specs.Prelude.{nat_eq, ◌&&◌, ◌||◌, not}
 use Rattle.std.specs.List.{sum_by}
 use Rattle.std.proofs.lemmas.Bool.{cases_Bool, and_parts, or_cases, or_left, or_right}
-use Rattle.std.proofs.lemmas.Bool.Decides.{eqb_tells, Decides-eqb}
+use Rattle.std.proofs.lemmas.Bool.Decides.{Decides-eqb}
 use Rattle.std.proofs.lemmas.List.{append_assoc}
 use Rattle.std.proofs.lemmas.List.Folds.{list_any-append}
-use Rattle.graph_spec.specs.Graphs.{Graph, IsGraph, is_live, is_seen, label_of, has_edge}
+use Rattle.graph_spec.specs.Graphs.{Graph, IsGraph, is_live, label_of, has_edge}
 use Rattle.graph_spec.specs.Members.{has, Lists}
 use Rattle.graph_spec.specs.Shapes.{shape_of}
 use Rattle.bisim_spec.specs.Weights.{weight_at, weight}
 use Rattle.one_spec.proofs.Sums.{sum_listed}
-use Rattle.change_spec.specs.Steps.{Step, node, link, unlink, drop, relabel, made, after}
+use Rattle.change_spec.specs.Steps.{Step, after}
 use Rattle.change_spec.specs.Altered.{targets}
 use Rattle.change_spec.specs.Costs.{is_gone}
-use Rattle.change_spec.specs.Places.{CanMakeAll}
 use Rattle.change_spec.proofs.StepDiffers.{differs_after}
-use Rattle.change_spec.proofs.StepGraphs.{label_other, label_gone}
-use Rattle.change_spec.proofs.StepPlaces.{label_added, live_given, given_made, gone_stays}
-use Rattle.graph_steps.specs.declared.changes.Step.{Step as Asked}
-use Rattle.graph_steps.specs.declared.changes.Step.TheVariants.{Node, Link, Unlink, Drop}
-use Rattle.graph_steps.specs.StepLists.{step_of, steps_of}
-use Rattle.graph_effects.specs.Effects.{EffectLists, AreEffects, has_pair, ListsPairs, is_new_node, is_new_edge}
+use Rattle.change_spec.proofs.StepPlaces.{live_given}
+use Rattle.graph_effects.specs.Effects.{EffectLists, AreEffects, has_pair, ListsPairs, is_new_node, is_same_label, is_relabelled, is_new_edge}
 use Rattle.graph_effects.specs.StepEffects.{node_if, live_ends}
 use Rattle.graph_effects.proofs.GoneNodes.{if_has}
 use Rattle.graph_effects.proofs.NamedPairs.{new_parts}
-
--- ---- labels
-
-seen_stays : (seen : List (List ℕ)) (t : List ℕ) (b : Bool) (l : ℕ) (r : List ℕ) → slice_get seen l ≡ Some r → slice_get (cond b seen (seen ++ t ∷ [])) l ≡ Some r
-seen_stays seen t true l r h = h
-seen_stays [] t false l r h = absurd (cc)
-seen_stays (x ∷ xs) t false zero r h = h
-seen_stays (x ∷ xs) t false (suc l) r h = seen_stays xs t false l r h
-
-seen_step : (s : Step) (g : Graph) (l : ℕ) (r : List ℕ) → slice_get g.seen l ≡ Some r → slice_get (made s g).seen l ≡ Some r
-seen_step (node t) g l r h = seen_stays g.seen t (is_seen g.seen t) l r h
-seen_step (link u v) g l r h = h
-seen_step (unlink u v) g l r h = h
-seen_step (drop u) g l r h = h
-seen_step (relabel u t) g l r h = seen_stays g.seen t (is_seen g.seen t) l r h
-
--- labels keep their numbers
-seen_after : (c : List Step) (g : Graph) (l : ℕ) (r : List ℕ) → slice_get g.seen l ≡ Some r → slice_get (after c g).seen l ≡ Some r
-seen_after [] g l r h = h
-seen_after (s ∷ ss) g l r h = seen_after ss (made s g) l r (seen_step s g l r h)
-
-label_step : (s : Asked) (g : Graph) (n : ℕ) → is_live g n ≡ true → is_live (made (step_of s) g) n ≡ true → label_of (made (step_of s) g) n ≡ label_of g n
-label_step (Node t) g n live live2 = label_added g t n (λ e. (let below = live_given g n live in absurd (omega (arith, e, below))))
-label_step (Link u v) g n live live2 = refl
-label_step (Unlink u v) g n live live2 = refl
-label_step (Drop u) g n live live2 = elim (eqb_tells n u) [
-  | inl e ↦ absurd (true≢false (sym live2 ∙ ap (is_live (made (drop u) g)) e.1 ∙ ap is_some (label_gone g u)))
-  | inr d ↦ label_other g.allocated u n None d.1
-]
-
--- a node of both graphs keeps its label
-label_after : (ss : List Asked) (g : Graph) (n : ℕ) → CanMakeAll (steps_of ss) g → is_live g n ≡ true → is_live (after (steps_of ss) g) n ≡ true → label_of (after (steps_of ss) g) n ≡ label_of g n
-label_after [] g n can live live2 = refl
-label_after (s ∷ ss) g n can live live2 =
-    let h = made (step_of s) g in
-    let more = given_made (step_of s) g in
-    let below = live_given g n live in
-    let still : is_live (made (step_of s) g) n ≡ true = elim (cases_Bool (is_live (made (step_of s) g) n)) [
-      | inl on ↦ on
-      | inr off ↦ absurd (true≢false (sym live2 ∙ gone_stays (steps_of ss) (made (step_of s) g) n can.1 (omega (arith, below, more)) off))
-    ] in
-    label_after ss (made (step_of s) g) n can.1 still live2 ∙ label_step s g n live still
+use Rattle.graph_effects.proofs.Relabelled.{seen_after, same_labels}
 
 -- ---- ends of edges
 
@@ -110,67 +64,81 @@ ends_from g2 (e ∷ es) n h = elim (or_cases (is_live g2 e.1 && nat_eq n e.1) (h
 pub record AreFound (g g2 : Graph) (e : EffectLists) : Type 0 where
   pub came : Lists (is_new_node g g2) e.came
   pub gone : Lists (is_new_node g2 g) e.gone
+  pub relabelled : Lists (is_relabelled g g2) e.relabelled
   pub lost : ListsPairs (is_new_edge g2 g) e.lost
   pub added : ListsPairs (is_new_edge g g2) e.added
-  pub targets : e.targets ≡ (e.came ++ live_ends g2 e.lost) ++ live_ends g2 e.added
+  pub targets : e.targets ≡ ((e.came ++ e.relabelled) ++ live_ends g2 e.lost) ++ live_ends g2 e.added
 
 -- lists that are the same have the same targets
-pub targets_of : (g2 : Graph) (found came came2 : List ℕ) (lost lost2 added added2 : List (ℕ × ℕ)) → came2 ≡ came → lost2 ≡ lost → added2 ≡ added
-    → found ≡ (came2 ++ live_ends g2 lost2) ++ live_ends g2 added2 → found ≡ (came ++ live_ends g2 lost) ++ live_ends g2 added
-targets_of g2 found came came2 lost lost2 added added2 c l a h =
-    h ∙ ap (λ xs. (xs ++ live_ends g2 lost2) ++ live_ends g2 added2) c ∙ ap (λ es. (came ++ live_ends g2 es) ++ live_ends g2 added2) l ∙ ap (λ es. (came ++ live_ends g2 lost) ++ live_ends g2 es) a
+pub targets_of : (g2 : Graph) (found came came2 other other2 : List ℕ) (lost lost2 added added2 : List (ℕ × ℕ)) → came2 ≡ came → other2 ≡ other → lost2 ≡ lost → added2 ≡ added
+    → found ≡ ((came2 ++ other2) ++ live_ends g2 lost2) ++ live_ends g2 added2 → found ≡ ((came ++ other) ++ live_ends g2 lost) ++ live_ends g2 added
+targets_of g2 found came came2 other other2 lost lost2 added added2 c o l a h =
+    h ∙ ap (λ xs. ((xs ++ other2) ++ live_ends g2 lost2) ++ live_ends g2 added2) c ∙ ap (λ xs. ((came ++ xs) ++ live_ends g2 lost2) ++ live_ends g2 added2) o
+    ∙ ap (λ es. ((came ++ other) ++ live_ends g2 es) ++ live_ends g2 added2) l ∙ ap (λ es. ((came ++ other) ++ live_ends g2 lost) ++ live_ends g2 es) a
 
-targets_has : (g g2 : Graph) (e : EffectLists) (n : ℕ) → AreFound g g2 e → has e.targets n ≡ ((has e.came n || has (live_ends g2 e.lost) n) || has (live_ends g2 e.added) n)
+targets_has : (g g2 : Graph) (e : EffectLists) (n : ℕ) → AreFound g g2 e
+    → has e.targets n ≡ (((has e.came n || has e.relabelled n) || has (live_ends g2 e.lost) n) || has (live_ends g2 e.added) n)
 targets_has g g2 e n f =
-    ap (λ xs. has xs n) f.targets ∙ list_any-append (nat_eq n) (e.came ++ live_ends g2 e.lost) (live_ends g2 e.added)
-    ∙ ap (λ b. b || has (live_ends g2 e.added) n) (list_any-append (nat_eq n) e.came (live_ends g2 e.lost))
+    ap (λ xs. has xs n) f.targets ∙ list_any-append (nat_eq n) ((e.came ++ e.relabelled) ++ live_ends g2 e.lost) (live_ends g2 e.added)
+    ∙ ap (λ b. b || has (live_ends g2 e.added) n) (list_any-append (nat_eq n) (e.came ++ e.relabelled) (live_ends g2 e.lost))
+    ∙ ap (λ b. (b || has (live_ends g2 e.lost) n) || has (live_ends g2 e.added) n) (list_any-append (nat_eq n) e.came e.relabelled)
 
--- a target comes, or an edge to it goes or comes
-target_why : (g g2 : Graph) (e : EffectLists) (n : ℕ) → AreFound g g2 e → has e.targets n ≡ true
-    → (is_live g2 n ≡ true) × ((is_live g n ≡ false) ⊎ ((u : ℕ) × (has_edge g u n ≢ has_edge g2 u n)))
+-- why a number is a target: it wasn't a node before, its label was another, or so was an edge to it
+abbrev IsAltered : Graph → Graph → ℕ → Type 0
+IsAltered g g2 n = (is_live g n ≡ false) ⊎ ((label_of g n ≢ label_of g2 n) ⊎ ((u : ℕ) × (has_edge g u n ≢ has_edge g2 u n)))
+
+-- a node that is relabelled is one after, and its label was another
+other_label : (g g2 : Graph) (n : ℕ) → is_relabelled g g2 n ≡ true → (is_live g2 n ≡ true) × (label_of g n ≢ label_of g2 n)
+other_label g g2 n h =
+    let parts = and_parts (is_live g n && is_live g2 n) (not (is_same_label (label_of g n) (label_of g2 n))) h in
+    let live = and_parts (is_live g n) (is_live g2 n) parts.0 in
+    (live.1, λ same. true≢false (sym parts.1 ∙ ap not (same_labels (label_of g n) (label_of g2 n) live.0 (sym same))))
+
+-- a target comes, or is relabelled, or an edge to it goes or comes
+target_why : (g g2 : Graph) (e : EffectLists) (n : ℕ) → AreFound g g2 e → has e.targets n ≡ true → (is_live g2 n ≡ true) × IsAltered g g2 n
 target_why g g2 e n f h =
-    elim (or_cases (has e.came n || has (live_ends g2 e.lost) n) (has (live_ends g2 e.added) n) (sym (targets_has g g2 e n f) ∙ h)) [
-      | inl front ↦ elim (or_cases (has e.came n) (has (live_ends g2 e.lost) n) front) [
-        | inl came ↦ (let p = new_parts (is_live g2 n) (is_live g n) (sym (f.came.members n) ∙ came) in (p.0, inl p.1))
+    elim (or_cases ((has e.came n || has e.relabelled n) || has (live_ends g2 e.lost) n) (has (live_ends g2 e.added) n) (sym (targets_has g g2 e n f) ∙ h)) [
+      | inl front ↦ elim (or_cases (has e.came n || has e.relabelled n) (has (live_ends g2 e.lost) n) front) [
+        | inl nodes ↦ elim (or_cases (has e.came n) (has e.relabelled n) nodes) [
+          | inl came ↦ (let p = new_parts (is_live g2 n) (is_live g n) (sym (f.came.members n) ∙ came) in (p.0, inl p.1))
+          | inr other ↦ (let p = other_label g g2 n (sym (f.relabelled.members n) ∙ other) in (p.0, inr (inl p.1)))
+        ]
         | inr lost ↦ (
             let r = ends_from g2 e.lost n lost in
             let p = new_parts (has_edge g r.1.0 n) (has_edge g2 r.1.0 n) (sym (f.lost.members r.1.0 n) ∙ r.1.1) in
-            (r.0, inr (r.1.0, λ same. true≢false (sym p.0 ∙ same ∙ p.1))))
+            (r.0, inr (inr (r.1.0, λ same. true≢false (sym p.0 ∙ same ∙ p.1)))))
       ]
       | inr added ↦ (
           let r = ends_from g2 e.added n added in
           let p = new_parts (has_edge g2 r.1.0 n) (has_edge g r.1.0 n) (sym (f.added.members r.1.0 n) ∙ r.1.1) in
-          (r.0, inr (r.1.0, λ same. true≢false (sym p.0 ∙ sym same ∙ p.1))))
+          (r.0, inr (inr (r.1.0, λ same. true≢false (sym p.0 ∙ sym same ∙ p.1)))))
     ]
 
-effects_are : (ss : List Asked) (g : Graph) (e : EffectLists) → IsGraph (after (steps_of ss) g) → CanMakeAll (steps_of ss) g → AreFound g (after (steps_of ss) g) e
-    → AreEffects g (after (steps_of ss) g) e
-effects_are ss g e graph can f =
-    let g2 = after (steps_of ss) g in
+-- the listed nodes and edges are the effects of the change
+pub effects_are : (c : List Step) (g : Graph) (e : EffectLists) → IsGraph (after c g) → AreFound g (after c g) e → AreEffects g (after c g) e
+effects_are c g e graph f =
+    let g2 = after c g in
     record {
-      seen = seen_after (steps_of ss) g;
-      label = λ n live live2. label_after ss g n can live live2;
+      seen = seen_after c g;
       came = f.came;
       gone = f.gone;
+      relabelled = f.relabelled;
       lost = f.lost;
       added = f.added;
       nodes = λ n h. (target_why g g2 e n f h).0;
-      target_came = λ n h.
-          targets_has g g2 e n f ∙ or_left (has e.came n || has (live_ends g2 e.lost) n) (has (live_ends g2 e.added) n) (or_left (has e.came n) (has (live_ends g2 e.lost) n) h);
+      target_came = λ n h. among n (or_left (has e.came n || has e.relabelled n) (has (live_ends g2 e.lost) n) (or_left (has e.came n) (has e.relabelled n) h));
+      target_relabelled = λ n h. among n (or_left (has e.came n || has e.relabelled n) (has (live_ends g2 e.lost) n) (or_right (has e.came n) (has e.relabelled n) h));
       target_added = λ u v h.
           targets_has g g2 e v f
-          ∙ or_right (has e.came v || has (live_ends g2 e.lost) v) (has (live_ends g2 e.added) v)
+          ∙ or_right ((has e.came v || has e.relabelled v) || has (live_ends g2 e.lost) v) (has (live_ends g2 e.added) v)
           (ends_there g2 e.added u v h (graph.onto u v (new_parts (has_edge g2 u v) (has_edge g u v) (sym (f.added.members u v) ∙ h)).0));
-      target_lost = λ u v h live.
-          targets_has g g2 e v f
-          ∙ or_left (has e.came v || has (live_ends g2 e.lost) v) (has (live_ends g2 e.added) v)
-          (or_right (has e.came v) (has (live_ends g2 e.lost) v) (ends_there g2 e.lost u v h live));
+      target_lost = λ u v h live. among v (or_right (has e.came v || has e.relabelled v) (has (live_ends g2 e.lost) v) (ends_there g2 e.lost u v h live));
     }
-
--- the same of the change that the steps stand for
-pub effects_listed : (c : List Step) (ss : List Asked) (g : Graph) (e : EffectLists) → steps_of ss ≡ c → IsGraph (after c g) → CanMakeAll c g → AreFound g (after c g) e → AreEffects g (after c g) e
-effects_listed c ss g e is graph can f =
-    subst (λ (d : List Step). IsGraph (after d g) → CanMakeAll d g → AreFound g (after d g) e → AreEffects g (after d g) e) is (effects_are ss g e) graph can f
+  where
+    among : (n : ℕ) → ((has e.came n || has e.relabelled n) || has (live_ends (after c g) e.lost) n) ≡ true → has e.targets n ≡ true
+    among n h =
+        targets_has g (after c g) e n f
+        ∙ or_left ((has e.came n || has e.relabelled n) || has (live_ends (after c g) e.lost) n) (has (live_ends (after c g) e.added) n) h
 
 -- Each target is one of the change: the graph is as it was at all other nodes.
 pub targets_are : (c : List Step) (g : Graph) (e : EffectLists) (n : ℕ) → AreFound g (after c g) e → has e.targets n ≡ true → targets c g n ≡ true
@@ -181,7 +149,10 @@ targets_are c g e n f h =
       | inl on ↦ on
       | inr off ↦ elim why.1 [
         | inl came ↦ absurd (true≢false (sym why.0 ∙ sym (ap is_some (d.label n why.0 off)) ∙ came))
-        | inr edge ↦ absurd (edge.1 (d.edge edge.0 n why.0 off))
+        | inr rest ↦ elim rest [
+          | inl other ↦ absurd (other (d.label n why.0 off))
+          | inr edge ↦ absurd (edge.1 (d.edge edge.0 n why.0 off))
+        ]
       ]
     ]
 

@@ -1,10 +1,11 @@
 -- What a change makes of a graph in the end, whatever its steps.
-use Rattle.std.specs.Prelude.{ℕ, ◌≡◌, ◌≤◌, ◌&&◌, not, Bool, List, [], ◌∷◌, Some, IsTrue, IsFalse, length, nat_eq, slice_get, refl}
+use Rattle.std.specs.Prelude.{ℕ, ◌≡◌, ◌&&◌, not, Bool, false, List, [], ◌∷◌, Option, Some, None, IsTrue, nat_eq, slice_get, refl}
 use Rattle.std.specs.Coded.{Coded, code_by, coded×, coded_ℕ, coded_list}
 use Rattle.std.specs.List.{list_any, IsDistinct}
 use Rattle.graph_spec.specs.Graphs.{Graph, is_live, label_of, has_edge}
 use Rattle.graph_spec.specs.Changes.{with_edge, without_edge}
 use Rattle.graph_spec.specs.Members.{has, Lists}
+use Rattle.change_spec.specs.Steps.{is_text}
 
 -- whether the two pairs are the same
 abbrev pub same_pair : ℕ × ℕ → ℕ × ℕ → Bool
@@ -24,6 +25,8 @@ pub record EffectLists : Type 0 where
   pub came : List ℕ
   -- the nodes that go
   pub gone : List ℕ
+  -- the nodes that get another label
+  pub relabelled : List ℕ
   -- the edges that go, those of nodes that go among them
   pub lost : List (ℕ × ℕ)
   -- the edges that come, those of nodes that come among them
@@ -33,38 +36,50 @@ pub record EffectLists : Type 0 where
 
 -- they are stored as their lists
 abbrev EffectParts : Type 0
-EffectParts = List ℕ × (List ℕ × (List (ℕ × ℕ) × (List (ℕ × ℕ) × List ℕ)))
+EffectParts = List ℕ × (List ℕ × (List ℕ × (List (ℕ × ℕ) × (List (ℕ × ℕ) × List ℕ))))
 
 abbrev pub effects_code : Coded EffectLists
 effects_code =
     code_by EffectParts
     (coded× (coded_list coded_ℕ)
     (coded× (coded_list coded_ℕ)
+    (coded× (coded_list coded_ℕ)
     (coded× (coded_list (coded× coded_ℕ coded_ℕ))
-    (coded× (coded_list (coded× coded_ℕ coded_ℕ)) (coded_list coded_ℕ)))))
-    (λ e. (e.came, (e.gone, (e.lost, (e.added, e.targets)))))
-    (λ p. record { came = p.0; gone = p.1.0; lost = p.1.1.0; added = p.1.1.1.0; targets = p.1.1.1.1 })
+    (coded× (coded_list (coded× coded_ℕ coded_ℕ)) (coded_list coded_ℕ))))))
+    (λ e. (e.came, (e.gone, (e.relabelled, (e.lost, (e.added, e.targets))))))
+    (λ p. record { came = p.0; gone = p.1.0; relabelled = p.1.1.0; lost = p.1.1.1.0; added = p.1.1.1.1.0; targets = p.1.1.1.1.1 })
     (λ _. refl)
 
 -- whether the number is a node of the second graph alone
 abbrev pub is_new_node : Graph → Graph → ℕ → Bool
 is_new_node g g2 n = is_live g2 n && not (is_live g n)
 
+-- whether both labels are there and are the same
+abbrev pub is_same_label : Option (List ℕ) → Option (List ℕ) → Bool
+is_same_label None o = false
+is_same_label (Some t) o = is_text t o
+
+-- whether the number is a node of both graphs, with another label in the second
+abbrev pub is_relabelled : Graph → Graph → ℕ → Bool
+is_relabelled g g2 n = (is_live g n && is_live g2 n) && not (is_same_label (label_of g n) (label_of g2 n))
+
 -- whether the edge is one of the second graph alone
 abbrev pub is_new_edge : Graph → Graph → ℕ → ℕ → Bool
 is_new_edge g g2 u v = has_edge g2 u v && not (has_edge g u v)
 
--- The effects lead from the graph g to g2. Nodes and edges come and go as listed. Labels keep their numbers, and nodes of both
--- graphs keep their labels. The targets are nodes of g2: those that come, those to which an edge comes or goes, and perhaps others.
+-- The effects lead from the graph g to g2. Nodes and edges come and go, and nodes get other labels, as listed. Labels keep their
+-- numbers. The targets are nodes of g2: those that come, those that get another label, those to which an edge comes or goes, and
+-- perhaps others.
 pub record AreEffects (g g2 : Graph) (e : EffectLists) : Type 0 where
   pub seen : (l : ℕ) (t : List ℕ) → slice_get g.seen l ≡ Some t → slice_get g2.seen l ≡ Some t
-  pub label : (n : ℕ) → IsTrue (is_live g n) → IsTrue (is_live g2 n) → label_of g2 n ≡ label_of g n
   pub came : Lists (is_new_node g g2) e.came
   pub gone : Lists (is_new_node g2 g) e.gone
+  pub relabelled : Lists (is_relabelled g g2) e.relabelled
   pub lost : ListsPairs (is_new_edge g2 g) e.lost
   pub added : ListsPairs (is_new_edge g g2) e.added
   pub nodes : (n : ℕ) → IsTrue (has e.targets n) → IsTrue (is_live g2 n)
   pub target_came : (n : ℕ) → IsTrue (has e.came n) → IsTrue (has e.targets n)
+  pub target_relabelled : (n : ℕ) → IsTrue (has e.relabelled n) → IsTrue (has e.targets n)
   pub target_added : (u v : ℕ) → IsTrue (has_pair e.added u v) → IsTrue (has e.targets v)
   pub target_lost : (u v : ℕ) → IsTrue (has_pair e.lost u v) → IsTrue (is_live g2 v) → IsTrue (has e.targets v)
 

@@ -28,6 +28,29 @@ abbrev pub gone_with : Graph → List Step → List ℕ
 gone_with g [] = []
 gone_with g (s ∷ ss) = gone_by g s ++ gone_with g ss
 
+-- ---- labels
+
+-- the step gives the node a label
+abbrev pub relabels : ℕ → Step → Bool
+relabels n (node t) = false
+relabels n (link u v) = false
+relabels n (unlink u v) = false
+relabels n (drop u) = false
+relabels n (relabel u t) = nat_eq n u
+
+-- the node to which the step gives a label, where it passes, unless a later step gives it one
+abbrev pub relabelled_last : (ℕ → Bool) → Step → List Step → List ℕ
+relabelled_last p (node t) rest = []
+relabelled_last p (link u v) rest = []
+relabelled_last p (unlink u v) rest = []
+relabelled_last p (drop u) rest = []
+relabelled_last p (relabel u t) rest = node_if (p u && not (list_any (relabels u) rest)) u
+
+-- the nodes to which steps give labels, each once, where they pass
+abbrev pub relabelled_where : (ℕ → Bool) → List Step → List ℕ
+relabelled_where p [] = []
+relabelled_where p (s ∷ ss) = relabelled_last p s ss ++ relabelled_where p ss
+
 -- ---- pairs that steps name
 
 -- the pair where it is wanted

@@ -4,12 +4,13 @@ ghost use Rattle.std.specs.Prelude.{◌≡◌};
 use px_base::NodeId;
 use std::marker::Model;
 
-/// What a change makes of a graph in the end, whatever its steps: the nodes and the edges that come and go, each once, and
-/// the nodes at which it alters the graph. It is seen as its lists.
+/// What a change makes of a graph in the end, whatever its steps: the nodes and the edges that come and go, and the nodes
+/// that get another label, each once; and the nodes at which it alters the graph. It is seen as its lists.
 #[derive(Drop)]
 pub struct Effects {
     pub(crate) came: Vec<NodeId>,
     pub(crate) gone: Vec<NodeId>,
+    pub(crate) relabelled: Vec<NodeId>,
     pub(crate) lost: Vec<(NodeId, NodeId)>,
     pub(crate) added: Vec<(NodeId, NodeId)>,
     pub(crate) targets: Vec<NodeId>,
@@ -22,7 +23,14 @@ impl Model for Effects {
 
     ghost coded = { effects_code };
 
-    ghost view = { λ e. record { came = e.came.items; gone = e.gone.items; lost = e.lost.items; added = e.added.items; targets = e.targets.items } };
+    ghost view = { λ e. record {
+      came = e.came.items;
+      gone = e.gone.items;
+      relabelled = e.relabelled.items;
+      lost = e.lost.items;
+      added = e.added.items;
+      targets = e.targets.items;
+    } };
 }
 
 impl Effects {
@@ -40,6 +48,13 @@ impl Effects {
         &self.gone
     }
 
+    /// The nodes that get another label: they are nodes before and after. O(1), no memory.
+    pub fn relabelled(&self) -> &[NodeId]
+        ensures { result.now ≡ self.now.relabelled }
+    {
+        &self.relabelled
+    }
+
     /// The edges that go, those of nodes that go among them, each from its beginning to its end. O(1), no memory.
     pub fn lost(&self) -> &[(NodeId, NodeId)]
         ensures { result.now ≡ self.now.lost }
@@ -54,8 +69,8 @@ impl Effects {
         &self.added
     }
 
-    /// The nodes at which the graph is altered: those that come, and those to which an edge comes or goes. They are nodes
-    /// of the graph after the change. O(1), no memory.
+    /// The nodes at which the graph is altered: those that come, those that get another label, and those to which an edge
+    /// comes or goes. They are nodes of the graph after the change. O(1), no memory.
     pub fn targets(&self) -> &[NodeId]
         ensures { result.now ≡ self.now.targets }
     {

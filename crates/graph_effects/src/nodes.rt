@@ -14,8 +14,8 @@ use label_graph::Graph;
 use px_base::{Memory, NodeId};
 use std::alloc::Global;
 
-// The number is noted where it is wanted.
-fn note_if(nodes: &mut Vec<NodeId>, n: NodeId, wanted: bool) -> Result<(), Memory>
+/// The number is noted where it is wanted.
+pub(crate) fn note_if(nodes: &mut Vec<NodeId>, n: NodeId, wanted: bool) -> Result<(), Memory>
     ensures { OnOk result (nodes.new.items ≡ nodes.old.items ++ node_if wanted n) }
 {
     if wanted {
@@ -105,18 +105,20 @@ fn note_ends(
     Ok(())
 }
 
-/// The nodes that come, and those to which these edges lead.
+/// The nodes that come, those that get another label, and those to which these edges lead.
 pub(crate) fn target_nodes(
     alloc: Global,
     came: &[NodeId],
+    relabelled: &[NodeId],
     lost: &[(NodeId, NodeId)],
     added: &[(NodeId, NodeId)],
     after: &After<'_>,
 ) -> Result<Vec<NodeId>, Memory>
     ensures { IfOk result (λ nodes. nodes.items
-        ≡ (came.now ++ live_ends (graph_after after.now) lost.now) ++ live_ends (graph_after after.now) added.now) }
+        ≡ ((came.now ++ relabelled.now) ++ live_ends (graph_after after.now) lost.now) ++ live_ends (graph_after after.now) added.now) }
 {
     let mut nodes = came.to_vec(alloc)?;
+    nodes.extend_from_slice(relabelled)?;
     note_ends(&mut nodes, lost, after)?;
     note_ends(&mut nodes, added, after)?;
     Ok(nodes)

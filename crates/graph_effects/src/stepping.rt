@@ -12,6 +12,7 @@ ghost use Rattle.graph_effects.specs.Effects.{AreEffects, ListsPairs, is_new_nod
 use crate::edges::{lose_nodes, sort_named};
 use crate::effects::Effects;
 use crate::nodes::{came_nodes, gone_nodes, target_nodes};
+use crate::relabelling::relabelled_nodes;
 use graph_steps::{Change, Step};
 use graph_update::After;
 use label_graph::Graph;
@@ -49,9 +50,10 @@ fn find_edges<L: Ledger>(
 impl Effects {
     /// What a change that `judge` accepts as new makes of the graph in the end. Each target is one of the change; a node
     /// may stand more than once among them. It takes at most a step for each step of the change, and twice the weight of
-    /// the nodes that go. O(s^2) for s steps, what it takes to look up an edge of the graph for each link and unlink, and
-    /// O(w) for nodes that go with weight w, O(s) more for each edge between one of them and a node that a step names.
-    /// It takes the memory of the effects. The only error is that memory runs out.
+    /// the nodes that go. O(s^2) for s steps, what `After::label` takes for each that gives a label, what it takes to look
+    /// up an edge of the graph for each link and unlink, and O(w) for nodes that go with weight w, O(s) more for each edge
+    /// between one of them and a node that a step names. It takes the memory of the effects. The only error is that memory
+    /// runs out.
     pub fn of<L: Ledger>(
         alloc: Global,
         graph: &Graph,
@@ -71,13 +73,15 @@ impl Effects {
         let all = change.steps();
         let came = came_nodes(alloc, graph, after)?;
         let gone = gone_nodes(alloc, graph, all, after)?;
+        let relabelled = relabelled_nodes(alloc, graph, all, after)?;
         let mut lost = Vec::new(alloc);
         let mut added = Vec::new(alloc);
         find_edges(graph, all, after, &gone, &mut lost, &mut added, steps)?;
-        let targets = target_nodes(alloc, &came, &lost, &added, after)?;
+        let targets = target_nodes(alloc, &came, &relabelled, &lost, &added, after)?;
         Ok(Effects {
             came,
             gone,
+            relabelled,
             lost,
             added,
             targets,

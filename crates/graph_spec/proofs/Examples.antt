@@ -1,21 +1,14 @@
 -- The definitions at worked values, and at near misses.
-use Rattle.std.proofs.Common.{◌≡◌, ℕ, zero, suc, true, false, Bool, List, [], ◌∷◌, refl, ap, sym, subst, arith, Option, None, Some, nat_eq, true≢false, ◌∙◌}
-use Rattle.std.specs.Prelude.{codes, Ok, Err, slice_index, ◌||◌, if◌then◌else◌}
-use Rattle.std.specs.List.{list_any}
-use Rattle.std.specs.Ordering.{eq_by_cmp}
+use Rattle.std.proofs.Common.{◌≡◌, ℕ, zero, suc, true, false, Bool, List, [], ◌∷◌, refl, ap, sym, subst, arith, Option, None, Some, true≢false}
+use Rattle.std.specs.Prelude.{codes, slice_index}
 use Rattle.std.specs.FinSet as set
-use Rattle.std.proofs.lemmas.Bool.{and_from, and_left, or_right, ne_eqb}
-use Rattle.std.proofs.lemmas.Cmp.{nat_eq_equiv}
-use Rattle.graph_spec.specs.declared.limits.Limits.{Limits}
-use Rattle.graph_spec.specs.declared.refusal.Refusal.TheVariants.{NoNode, NoEdge, InUse}
-use Rattle.graph_spec.specs.ProgramLimits.{program_limits}
 use Rattle.graph_spec.specs.Lines.{cut}
 use Rattle.graph_spec.specs.Words.{words, is_name}
-use Rattle.graph_spec.specs.Graphs.{Graph, IsGraph, empty_graph, edge_cmp, has_edge}
-use Rattle.graph_spec.specs.Changes.{node, link, unlink, drop, apply, with_node, with_edge, without_edge, without_node}
+use Rattle.graph_spec.specs.Graphs.{Graph, IsGraph, empty_graph}
+use Rattle.graph_spec.specs.Changes.{with_node, without_node}
 use Rattle.graph_spec.specs.Shapes.{Shape}
 use Rattle.graph_spec.specs.Walks.{Leads}
-use Rattle.graph_spec.proofs.EdgeOrder.{edge_cmp_total, eq_pair}
+use Rattle.graph_spec.proofs.EdgeOrder.{edge_cmp_total}
 use Rattle.graph_spec.proofs.GraphLaws.{graph_empty, graph_with_node, graph_with_edge}
 use Rattle.std.specs.List.{IsDistinct}
 
@@ -56,66 +49,15 @@ cut_feed_return : cut (codes "\n\r") ≡ record { text = []; end = 10 ∷ [] } �
 cut_feed_return = refl
 
 -- a first node has number 0, and its label is seen; a second one with that label sees no other
-added : apply (node (codes "a")) empty_graph program_limits ≡ Ok (record { allocated = Some (codes "a") ∷ []; edges = set.empty; seen = codes "a" ∷ [] })
+added : with_node empty_graph (codes "a") ≡ record { allocated = Some (codes "a") ∷ []; edges = set.empty; seen = codes "a" ∷ [] }
 added = refl
 
-added_again : (g : Graph) → g ≡ with_node (with_node empty_graph (codes "a")) (codes "a") → g.seen ≡ codes "a" ∷ []
-added_again g e = ap (λ h. h.seen) e
+added_again : (with_node (with_node empty_graph (codes "a")) (codes "a")).seen ≡ codes "a" ∷ []
+added_again = refl
 
--- a link to a number that isn't allocated is refused for that, whatever the limits
-missing : (limits : Limits) → apply (link 0 7) (with_node empty_graph (codes "a")) limits ≡ Err NoNode
-missing limits = refl
-
-abbrev two : Graph
-two = with_node (with_node empty_graph (codes "a")) (codes "b")
-
--- an edge that is there can be taken away; the one the other way round can't, nor one to a number that isn't allocated
-unlinked : (limits : Limits) → apply (unlink 0 1) (with_edge two 0 1) limits ≡ Ok (without_edge (with_edge two 0 1) 0 1)
-unlinked limits = ap (λ b. if b then Ok (without_edge (with_edge two 0 1) 0 1) else Err NoEdge) (set.contains-insert edge_cmp_total set.empty (0, 1) (0, 1))
-
-unlinked_gone : has_edge (without_edge (with_edge two 0 1) 0 1) 0 1 ≡ false
-unlinked_gone = set.contains-remove edge_cmp_total (with_edge two 0 1).edges (0, 1) (0, 1)
-
-unlink_back : (limits : Limits) → apply (unlink 1 0) (with_edge two 0 1) limits ≡ Err NoEdge
-unlink_back limits =
-    ap (λ b. if b then Ok (without_edge (with_edge two 0 1) 1 0) else Err NoEdge)
-    (set.contains-insert edge_cmp_total set.empty (0, 1) (1, 0) ∙ set.contains-empty edge_cmp (1, 0))
-
-unlink_missing : (limits : Limits) → apply (unlink 0 7) (with_edge two 0 1) limits ≡ Err NoNode
-unlink_missing limits = refl
-
-no_edges : (es : List (ℕ × ℕ)) → ((e : ℕ × ℕ) → list_any (eq_by_cmp edge_cmp e) es ≡ false) → es ≡ []
-no_edges [] h = refl
-no_edges (e ∷ es) h =
-    let same : eq_by_cmp edge_cmp e e ≡ true = eq_pair e.0 e.1 e.0 e.1 ∙ and_from (nat_eq e.0 e.0) (nat_eq e.1 e.1) (nat_eq_equiv.refl e.0) (nat_eq_equiv.refl e.1) in
-    absurd (true≢false (sym (ap (λ b. b || list_any (eq_by_cmp edge_cmp e) es) same) ∙ h e))
-
--- a node without edges can be dropped; its number is never allocated again
-dropped : (limits : Limits) → apply (drop 0) (with_node empty_graph (codes "a")) limits ≡ Ok (record { allocated = None ∷ []; edges = set.empty; seen = codes "a" ∷ [] })
-dropped limits =
-    ap (λ es. if list_any (λ e. nat_eq e.0 0 || nat_eq e.1 0) es then Err InUse else Ok (without_node (with_node empty_graph (codes "a")) 0))
-    (no_edges (set.items {R = edge_cmp} set.empty) (λ e. sym (set.contains-items set.empty e) ∙ set.contains-empty edge_cmp e))
-
-dropped_twice : (limits : Limits) → apply (drop 0) (without_node (with_node empty_graph (codes "a")) 0) limits ≡ Err NoNode
-dropped_twice limits = refl
-
+-- the number of a node that is gone is never allocated again
 number_kept : (with_node (without_node (with_node empty_graph (codes "a")) 0) (codes "b")).allocated ≡ None ∷ Some (codes "b") ∷ []
 number_kept = refl
-
-used : (es : List (ℕ × ℕ)) → list_any (eq_by_cmp edge_cmp (0, 0)) es ≡ true → list_any (λ e. nat_eq e.0 0 || nat_eq e.1 0) es ≡ true
-used [] h = h
-used ((zero, b) ∷ es) h = refl
-used ((suc a, b) ∷ es) h =
-    let other : eq_by_cmp edge_cmp (0, 0) (suc a, b) ≡ false = eq_pair 0 0 (suc a) b ∙ and_left (nat_eq 0 (suc a)) (nat_eq 0 b) (ne_eqb 0 (suc a) (λ e. omega (arith, e))) in
-    or_right (nat_eq (suc a) 0 || nat_eq b 0) (list_any (λ e. nat_eq e.0 0 || nat_eq e.1 0) es)
-    (used es (sym (ap (λ x. x || list_any (eq_by_cmp edge_cmp (0, 0)) es) other) ∙ h))
-
--- a node's own loop is an edge at it
-drop_looped : (limits : Limits) → apply (drop 0) (with_edge (with_node empty_graph (codes "a")) 0 0) limits ≡ Err InUse
-drop_looped limits =
-    let looped = with_edge (with_node empty_graph (codes "a")) 0 0 in
-    ap (λ b. if b then Err InUse else Ok (without_node looped 0))
-    (used (set.items looped.edges) (sym (set.contains-items looped.edges (0, 0)) ∙ set.contains-insert edge_cmp_total set.empty (0, 0) (0, 0)))
 
 -- on a -> b -> c a walk with the word b, c leads from 1 to 2; none with the word a, c leads anywhere
 abbrev chain_label : ℕ → Option (List ℕ)

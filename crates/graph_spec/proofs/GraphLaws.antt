@@ -1,16 +1,13 @@
--- What holds of the empty graph, and stays where a change is made.
-use Rattle.std.proofs.Common.{◌≢◌, inl, inr, rules, ◌≡◌, ℕ, ◌<◌, zero, suc, Bool, true, false, List, [], ◌∷◌, ◌++◌, length, Option, Some, None, Ok, Err, refl, sym, ap, ◌∙◌, subst, nat_eq, arith, true≢false}
-use Rattle.std.specs.Prelude.{◌⊎◌, ◌&&◌, ◌||◌, not, IsTrue, IsSome, Result, slice_get, slice_set, option_and_then, is_some, bytes_eq, if◌then◌else◌}
+-- What holds of the empty graph, and stays where a node or an edge comes or goes.
+use Rattle.std.proofs.Common.{◌≢◌, inl, inr, rules, ◌≡◌, ℕ, ◌<◌, zero, suc, Bool, true, false, List, [], ◌∷◌, ◌++◌, length, Option, Some, None, refl, sym, ap, ◌∙◌, subst, nat_eq, arith, true≢false}
+use Rattle.std.specs.Prelude.{◌⊎◌, ◌&&◌, ◌||◌, not, IsTrue, IsSome, slice_get, slice_set, option_and_then, is_some, bytes_eq, if◌then◌else◌}
 use Rattle.std.specs.List.{IsDistinct, AllByRecursion}
 use Rattle.std.specs.FinSet as set
 use Rattle.std.proofs.lemmas.Bool.{eqb-true, and_parts, or_parts}
 use Rattle.std.proofs.lemmas.List.Folds.{list_any-append}
 use Rattle.std.proofs.lemmas.Map.Keys.{IsDistinct-head, IsDistinct-tail, IsDistinct-cons}
-use Rattle.graph_spec.specs.declared.limits.Limits.{Limits}
-use Rattle.graph_spec.specs.declared.refusal.Refusal.{Refusal}
-use Rattle.graph_spec.specs.declared.refusal.Refusal.TheVariants.{NoNode, NoEdge, InUse, Limit}
 use Rattle.graph_spec.specs.Graphs.{Graph, IsGraph, empty_graph, edge_cmp, is_live, has_edge, is_seen}
-use Rattle.graph_spec.specs.Changes.{Change, node, link, unlink, drop, apply, with_label, with_node, with_edge, without_edge, without_node, is_used, node_fits, edge_fits}
+use Rattle.graph_spec.specs.Changes.{with_label, with_node, with_edge, without_edge, without_node, is_used}
 use Rattle.graph_spec.specs.Shapes.{IsShape, shape_of}
 use Rattle.std.specs.Cmp.{IsEquivalence}
 use Rattle.std.specs.Cmp.Rules.{comparing}
@@ -140,34 +137,6 @@ graph_without_node g u s unused = record {
   from = λ a b h. subst IsTrue (sym (ap is_some (label_kept g.allocated u a (λ e. true≢false (sym h ∙ ap (λ x. has_edge g x b) e ∙ (unused_bare g u unused).from b))))) (s.from a b h);
   onto = λ a b h. subst IsTrue (sym (ap is_some (label_kept g.allocated u b (λ e. true≢false (sym h ∙ ap (has_edge g a) e ∙ (unused_bare g u unused).onto a))))) (s.onto a b h);
 }
-
--- ---- any change that is accepted
-
-passes : (b : Bool) (r : Result Graph Refusal) (e : Refusal) (h : Graph) → (if b then r else Err e) ≡ Ok h → (b ≡ true) × (r ≡ Ok h)
-passes true r e h p = (refl, p)
-passes false r e h p = cc
-
-fails : (b : Bool) (r : Result Graph Refusal) (e : Refusal) (h : Graph) → (if b then Err e else r) ≡ Ok h → (b ≡ false) × (r ≡ Ok h)
-fails true r e h p = cc
-fails false r e h p = (refl, p)
-
-the_graph : (r : Result Graph Refusal) (g h : Graph) → r ≡ Ok g → r ≡ Ok h → g ≡ h
-the_graph r g h p q = cc
-
--- a graph stays one where a change is accepted
-pub graph_applied : (c : Change) (g h : Graph) (limits : Limits) → IsGraph g → apply c g limits ≡ Ok h → IsGraph h
-graph_applied (node t) g h limits s e = subst IsGraph (the_graph (Ok (with_node g t)) (with_node g t) h refl (passes (node_fits g limits t) (Ok (with_node g t)) Limit h e).1) (graph_with_node g t s)
-graph_applied (link u v) g h limits s e =
-    let outer = passes (is_live g u && is_live g v) (if edge_fits g limits u v then Ok (with_edge g u v) else Err Limit) NoNode h e in
-    let live = and_parts (is_live g u) (is_live g v) outer.0 in
-    subst IsGraph (the_graph (Ok (with_edge g u v)) (with_edge g u v) h refl (passes (edge_fits g limits u v) (Ok (with_edge g u v)) Limit h outer.1).1) (graph_with_edge g u v s live.0 live.1)
-graph_applied (unlink u v) g h limits s e =
-    let outer = passes (is_live g u && is_live g v) (if has_edge g u v then Ok (without_edge g u v) else Err NoEdge) NoNode h e in
-    subst IsGraph (the_graph (Ok (without_edge g u v)) (without_edge g u v) h refl (passes (has_edge g u v) (Ok (without_edge g u v)) NoEdge h outer.1).1) (graph_without_edge g u v s)
-graph_applied (drop u) g h limits s e =
-    let outer = passes (is_live g u) (if is_used g u then Err InUse else Ok (without_node g u)) NoNode h e in
-    let inner = fails (is_used g u) (Ok (without_node g u)) InUse h outer.1 in
-    subst IsGraph (the_graph (Ok (without_node g u)) (without_node g u) h refl inner.1) (graph_without_node g u s inner.0)
 
 -- the empty graph is one
 no_edge : (u v : ℕ) → has_edge empty_graph u v ≡ false

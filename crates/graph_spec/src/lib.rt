@@ -1,7 +1,7 @@
 //! The definitions that every layer cites: texts and their lines, names, the graph and its changes,
 //! shapes and walks; and the two plain types that they speak of.
 //!
-//! Laws in `proofs/`: the empty graph is a graph (`IsGraph`), a change that is accepted leaves one, and its live nodes are a shape.
+//! Laws in `proofs/`: the empty graph is a graph (`IsGraph`), a node or an edge more or less leaves one, and its live nodes are a shape.
 #![tactic(auto)]
 
 mod limits;

@@ -8,8 +8,6 @@ pub enum Refusal {
     NoNode = 1,
     /// The edge isn't present.
     NoEdge = 2,
-    /// The node has an edge.
-    InUse = 3,
     /// A limit is reached.
     Limit = 4,
     /// The index isn't kept.
@@ -26,7 +24,6 @@ impl Refusal {
         match self {
             Refusal::NoNode => "no-node",
             Refusal::NoEdge => "no-edge",
-            Refusal::InUse => "in-use",
             Refusal::Limit => "limit",
             Refusal::NoIndex => "no-index",
         }

@@ -16,7 +16,7 @@ use Rattle.change_spec.specs.Places.{CanMake, CanMakeAll}
 use Rattle.change_spec.proofs.KeptEdges.{kept_same, kept_twice, kept_more, kept_less, kept_gone}
 use Rattle.change_spec.proofs.StepPlaces.{dropped_gone, graph_all}
 use Rattle.graph_steps.specs.declared.changes.Step.{Step as Asked}
-use Rattle.graph_steps.specs.declared.changes.Step.TheVariants.{Node, Link, Unlink, Drop}
+use Rattle.graph_steps.specs.declared.changes.Step.TheVariants.{Node, Link, Unlink, Drop, Relabel}
 use Rattle.graph_steps.specs.StepLists.{step_of, steps_of}
 use Rattle.graph_steps.specs.Counted.{touching}
 use Rattle.graph_steps.proofs.FrontSteps.{more_at}
@@ -166,6 +166,7 @@ left_next ss i s g u count h e can live one front free free2 is = split s (λ n.
     split (Node t) m c = plain (node t) (λ n. refl) m
     split (Link a b) m c = plain (link a b) (λ n. refl) m
     split (Unlink a b) m c = plain (unlink a b) (λ n. refl) m
+    split (Relabel a t) m c = plain (relabel a t) (λ n. refl) m
     split (Drop w) m c =
         let apart : u ≢ w = λ same. true≢false (sym (m u ∙ ap (λ b. d u || b) (here w same) ∙ or-true (d u)) ∙ free2) in
         let off : d w ≡ false = live_not_gone (take i ss) g w front c in

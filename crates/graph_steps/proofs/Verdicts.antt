@@ -1,21 +1,18 @@
 -- What the steps come to, one more at a time.
-use Rattle.std.proofs.Common.{◌≡◌, ℕ, zero, suc, ◌+◌, ◌<◌, ◌≤◌, Bool, true, false, List, [], ◌∷◌, ◌++◌, length, Ok, Err, refl, sym, ap, ◌∙◌, arith, take, get_or, true≢false}
+use Rattle.std.proofs.Common.{◌≡◌, ℕ, zero, suc, ◌+◌, ◌<◌, ◌≤◌, Bool, true, false, List, [], ◌∷◌, ◌++◌, length, Ok, Err, refl, sym, ap, ◌∙◌, arith, take, get_or}
 use Rattle.std.specs.Prelude.{◌||◌, not, nat_le, if◌then◌else◌}
-use Rattle.std.proofs.lemmas.Bool.{or_parts}
 use Rattle.std.proofs.lemmas.Bool.Decides.{nat_tests}
 use Rattle.graph_spec.specs.declared.limits.Limits.{Limits}
 use Rattle.graph_spec.specs.declared.refusal.Refusal.{Refusal}
 use Rattle.graph_spec.specs.declared.refusal.Refusal.TheVariants.{Limit}
-use Rattle.graph_spec.specs.Graphs.{Graph, Edges, has_edge}
-use Rattle.graph_spec.specs.Changes.{with_edge}
+use Rattle.graph_spec.specs.Graphs.{Graph, IsGraph}
 use Rattle.change_spec.specs.Steps.{made, after, and_then, apply_step, apply_all, apply, is_new, is_idle, MOST_STEPS}
 use Rattle.change_spec.proofs.Fronts.{new_more, apply_joined}
 use Rattle.graph_steps.specs.declared.changes.Step.{Step as Asked}
-use Rattle.graph_steps.specs.declared.changes.Step.TheVariants.{Node, Link, Unlink, Drop}
 use Rattle.graph_steps.specs.declared.changes.Verdict.TheVariants.{New, Same}
 use Rattle.graph_steps.specs.StepLists.{step_of, steps_of}
 use Rattle.graph_steps.specs.Verdicts.{Judges}
-use Rattle.graph_steps.proofs.GrownCounts.{edges_same}
+use Rattle.graph_steps.proofs.IdleSteps.{unaltered}
 use Rattle.graph_steps.proofs.FrontSteps.{more_at, after_at}
 
 -- the next step is accepted
@@ -71,22 +68,7 @@ few_enough ss h = ap (λ n. nat_le n MOST_STEPS) (length_of ss) ∙ test (length
 pub few_apply : (ss : List Asked) (g : Graph) (limits : Limits) → length ss ≤ 1024 → apply (steps_of ss) g limits ≡ apply_all (steps_of ss) g limits
 few_apply ss g limits h = ap (λ b. if b then apply_all (steps_of ss) g limits else Err Limit) (few_enough ss h)
 
-true_from : (b : Bool) → not b ≡ false → b ≡ true
-true_from true h = refl
-true_from false h = sym h
-
--- where no step alters the graph, each is a link of an edge that is there
-unaltered : (ss : List Asked) (g : Graph) → is_new (steps_of ss) g ≡ false → after (steps_of ss) g ≡ g
-unaltered [] g h = refl
-unaltered (Node t ∷ ss) g h = absurd (true≢false h)
-unaltered (Unlink u v ∷ ss) g h = absurd (true≢false h)
-unaltered (Drop u ∷ ss) g h = absurd (true≢false h)
-unaltered (Link u v ∷ ss) g h =
-    let both = or_parts (not (has_edge g u v)) (is_new (steps_of ss) (with_edge g u v)) h in
-    let same : with_edge g u v ≡ g = ap (λ (es : Edges). record g { edges = es }) (edges_same g.edges (u, v) (true_from (has_edge g u v) both.0)) in
-    unaltered ss (with_edge g u v) both.1 ∙ same
-
-pub judged : (ss : List Asked) (g : Graph) (limits : Limits) (new : Bool) → length ss ≤ 1024 → apply_all (steps_of ss) g limits ≡ Ok (after (steps_of ss) g)
+pub judged : (ss : List Asked) (g : Graph) (limits : Limits) (new : Bool) → IsGraph g → length ss ≤ 1024 → apply_all (steps_of ss) g limits ≡ Ok (after (steps_of ss) g)
     → new ≡ is_new (steps_of ss) g → Judges (steps_of ss) g limits (Ok (if new then New else Same))
-judged ss g limits true h a n = (sym n, few_apply ss g limits h ∙ a)
-judged ss g limits false h a n = (sym n, few_apply ss g limits h ∙ a ∙ ap Ok (unaltered ss g (sym n)))
+judged ss g limits true graph h a n = (sym n, few_apply ss g limits h ∙ a)
+judged ss g limits false graph h a n = (sym n, few_apply ss g limits h ∙ a ∙ ap Ok (unaltered (steps_of ss) g graph (sym n)))

@@ -29,6 +29,8 @@ pub enum Step {
     Unlink(NodeId, NodeId),
     /// The node is taken away, with each edge that begins or ends there. Its number is never allocated again.
     Drop(NodeId),
+    /// The node gets this label.
+    Relabel(NodeId, Text),
 }
 
 // What stands in a change's place for one step while it has none.
@@ -149,7 +151,8 @@ fn names(step: &Step, n: NodeId) -> bool
         Step::Link(from, to) => is_either(n, *from, *to),
         Step::Unlink(from, to) => is_either(n, *from, *to),
         Step::Drop(node) => n == *node,
-        _ => false,
+        Step::Relabel(node, _) => n == *node,
+        Step::Node(_) => false,
     }
 }
 
@@ -186,6 +189,7 @@ fn name_ends(named: &mut IndexSet<NodeId>, step: &Step) -> Result<(), Memory>
         Step::Link(from, to) => name_both(named, *from, *to),
         Step::Unlink(from, to) => name_both(named, *from, *to),
         Step::Drop(node) => name(named, *node),
+        Step::Relabel(node, _) => name(named, *node),
     }
 }
 
@@ -202,6 +206,6 @@ fn name_both(named: &mut IndexSet<NodeId>, u: NodeId, v: NodeId) -> Result<(), M
 pub enum Verdict {
     /// Some step isn't idle.
     New,
-    /// Each step links an edge that is there already, and the graph stays as it is.
+    /// Each step links an edge that is there already, or gives a node the label that it has; the graph stays as it is.
     Same,
 }

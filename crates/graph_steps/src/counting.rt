@@ -1,5 +1,6 @@
 // How much a graph has once some steps are made.
 ghost use Rattle.std.specs.Prelude.{◌≡◌, ◌+◌, ◌≤◌, false};
+ghost use Rattle.graph_spec.specs.Graphs.{IsGraph};
 ghost use Rattle.graph_steps.specs.Counted.{AreCounts};
 
 use label_graph::Graph;
@@ -29,7 +30,8 @@ pub(crate) struct Taken {
 
 /// How much the graph has as it is.
 pub(crate) fn counts_of(graph: &Graph) -> Counts
-    ensures { (x : Exact) → AreCounts x result graph.now.graph }
+    ensures counts { (x : Exact) → AreCounts x result graph.now.graph }
+    ensures graph { IsGraph graph.now.graph }
 {
     Counts {
         created: graph.created(),

@@ -1,9 +1,9 @@
 // A graph as the first steps of a change will leave it.
 ghost use Rattle.std.specs.Prelude.{◌≡◌, ◌+◌, ◌<◌, ◌≤◌, ◌^◌, ◌&&◌, ◌||◌, not, nat_eq, bytes_eq, length};
-ghost use Rattle.graph_spec.specs.Graphs.{Graph as Seen, is_live, has_edge, is_seen};
-ghost use Rattle.change_spec.specs.Steps.{made, after};
+ghost use Rattle.graph_spec.specs.Graphs.{Graph as Seen, is_live, label_of, has_edge, is_seen};
+ghost use Rattle.change_spec.specs.Steps.{made, after, is_text};
 ghost use Rattle.change_spec.specs.Places.{CanMakeAll};
-ghost use Rattle.graph_steps.specs.StepLists.{step_of, steps_of, LivesAfter};
+ghost use Rattle.graph_steps.specs.StepLists.{step_of, steps_of, LivesAfter, NamesAfter};
 
 use crate::changes::Step;
 use label_graph::{Graph, Labels};
@@ -134,6 +134,7 @@ fn seen_after(seen: bool, step: &Step, text: &Text) -> bool
 {
     match step {
         Step::Node(label) => either(seen, is_same(text, label)),
+        Step::Relabel(_, label) => either(seen, is_same(text, label)),
         _ => seen,
     }
 }
@@ -158,4 +159,66 @@ pub fn is_seen(graph: &Graph, front: &[Step], text: &Text) -> bool
         seen = seen_after(seen, &front[i], text);
     }
     seen
+}
+
+// Whether a node has the label that is asked for, and the next number to be allocated.
+#[derive(Clone, Copy)]
+struct Naming {
+    has: bool,
+    next: u64,
+}
+
+// The same once a step is made.
+fn naming_after(naming: Naming, step: &Step, u: NodeId, text: &Text) -> Naming
+    requires few { naming.next < 2 ^ 63 }
+    ensures has { NamesAfter (step_of step.now) naming.has naming.next u text.now result.has }
+    ensures next { (h : Seen) → naming.next ≡ length h.allocated → result.next ≡ length (made (step_of step.now) h).allocated }
+    ensures most { result.next ≤ naming.next + 1 }
+{
+    match step {
+        Step::Node(label) => Naming {
+            has: if u64::from(u) == naming.next {
+                *text == *label
+            } else {
+                naming.has
+            },
+            next: naming.next + 1,
+        },
+        Step::Drop(w) => Naming {
+            has: naming.has && u != *w,
+            next: naming.next,
+        },
+        Step::Relabel(w, label) => Naming {
+            has: if u == *w { *text == *label } else { naming.has },
+            next: naming.next,
+        },
+        _ => naming,
+    }
+}
+
+// Whether a node has that label in the graph as it is.
+fn label_before(graph: &Graph, u: NodeId, text: &Text) -> bool
+    ensures { result ≡ is_text text.now (label_of graph.now.graph u) }
+{
+    if !graph.is_live(u) {
+        return false;
+    }
+    *text == *graph.labels().text(graph.label(u))
+}
+
+/// Whether a node has that label once the first steps are made. O(b) for a text of b bytes, and O(s) compares for s steps;
+/// no memory.
+pub fn has_label(graph: &Graph, front: &[Step], u: NodeId, text: &Text) -> bool
+    requires few { length front.now ≤ 1024 }
+    requires can { CanMakeAll (steps_of front.now) graph.now.graph }
+    ensures { result ≡ is_text text.now (label_of (after (steps_of front.now) graph.now.graph) u) }
+{
+    let mut naming = Naming {
+        has: label_before(graph, u, text),
+        next: u64::from(graph.created()),
+    };
+    for i in 0..front.len() {
+        naming = naming_after(naming, &front[i], u, text);
+    }
+    naming.has
 }

@@ -1,7 +1,7 @@
 // Whether a change is accepted.
 ghost use Rattle.std.specs.Prelude.{◌-◌, ◌≡◌, ◌≢◌, ◌<◌, Ok, Err, ◌≤◌, true, false, not, length, take, IsTrue, if◌then◌else◌};
 ghost use Rattle.graph_spec.specs.Graphs.{is_live as live_in, is_seen as seen_in};
-ghost use Rattle.change_spec.specs.Steps.{node, link, unlink, drop, after};
+ghost use Rattle.change_spec.specs.Steps.{node, link, unlink, drop, relabel, after};
 ghost use Rattle.change_spec.specs.Places.{CanMakeAll};
 ghost use Rattle.graph_steps.specs.StepLists.{step_of, steps_of};
 ghost use Rattle.graph_steps.specs.NewChanges.{IsNew, AreHighest};
@@ -11,7 +11,7 @@ ghost use Rattle.graph_steps.specs.Verdicts.{Judges};
 use crate::changes::{Change, Step, Verdict};
 use crate::counting::{Counts, Exact, Taken, counts_of, exact_for};
 use crate::degrees::edges_at;
-use crate::fronts::{either, has_edge, is_live, is_seen};
+use crate::fronts::{either, has_edge, has_label, is_live, is_seen};
 use label_graph::Graph;
 use px_base::{Limits, NodeId, Refusal, Text};
 
@@ -171,14 +171,47 @@ fn judge_drop(
     })
 }
 
-/// Whether a change is accepted, and if so, whether some step isn't idle: a link of an edge that is there already is
-/// idle. Steps are judged in their order, each in the graph that those before it leave. A refusal is that of the first
-/// step that is refused, and of this step the first that holds: `NoNode` exactly where a node that it names isn't live;
-/// then `NoEdge` exactly where an edge to be unlinked isn't present, and `Limit` exactly where the step needs one more of
-/// what is at its limit. A change of more than 1,024 steps is refused before all these, with `Limit`.
+fn judge_relabel(
+    graph: &Graph,
+    front: &[Step],
+    u: NodeId,
+    label: &Text,
+    limits: &Limits,
+    exact: Exact,
+    counts: Counts,
+) -> Result<Taken, Refusal>
+    requires few { length front.now ≤ 1024 }
+    requires can { CanMakeAll (steps_of front.now) graph.now.graph }
+    requires counts { AreCounts exact counts (after (steps_of front.now) graph.now.graph) }
+    requires labels { exact.labels ≡ false → counts.labels < limits.now.labels }
+    ensures { StepComes exact counts (relabel u label.now) (after (steps_of front.now) graph.now.graph) limits.now result }
+{
+    if !is_live(graph, front, u) {
+        return Err(Refusal::NoNode);
+    }
+    let more = is_more(graph, front, label, exact);
+    if more && counts.labels >= limits.labels {
+        return Err(Refusal::Limit);
+    }
+    Ok(Taken {
+        counts: Counts {
+            created: counts.created,
+            edges: counts.edges,
+            labels: counts.labels + u32::from(more),
+        },
+        alters: !has_label(graph, front, u, label),
+    })
+}
+
+/// Whether a change is accepted, and if so, whether some step isn't idle: idle is a link of an edge that is there already,
+/// or a label for a node that has it. Steps are judged in their order, each in the graph that those before it leave. A
+/// refusal is that of the first step that is refused, and of this step the first that holds: `NoNode` exactly where a node
+/// that it names isn't live; then `NoEdge` exactly where an edge to be unlinked isn't present, and `Limit` exactly where
+/// the step needs one more of what is at its limit. A change of more than 1,024 steps is refused before all these, with
+/// `Limit`.
 ///
-/// One step is expected O(b) for a node whose label has b bytes, O(min(c, p)) for an edge that leads from a node with c
-/// children to one with p parents, and O(1) for a node to be dropped. Each of s steps looks through those before it too:
+/// One step is expected O(b) for a label of b bytes, O(min(c, p)) for an edge that leads from a node with c children to
+/// one with p parents, and O(1) for a node to be dropped. Each of s steps looks through those before it too:
 /// O(s). Only where so many steps could reach the limit of edges, the edges at a node to be dropped are counted: see
 /// `edges_at`. No memory.
 pub fn judge(graph: &Graph, change: &Change, limits: &Limits) -> Result<Verdict, Refusal>
@@ -258,5 +291,6 @@ fn judge_step(
         Step::Link(u, v) => judge_link(graph, front, *u, *v, limits, exact, counts),
         Step::Unlink(u, v) => judge_unlink(graph, front, *u, *v, exact, counts),
         Step::Drop(u) => judge_drop(graph, front, *u, exact, counts),
+        Step::Relabel(u, label) => judge_relabel(graph, front, *u, label, limits, exact, counts),
     }
 }

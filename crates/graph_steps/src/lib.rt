@@ -11,5 +11,5 @@ mod tests;
 
 pub use changes::{Change, Step, Verdict};
 pub use degrees::{edges_at, is_dropped};
-pub use fronts::{has_edge, is_seen};
+pub use fronts::{has_edge, has_label, is_seen};
 pub use judging::judge;

@@ -22,9 +22,10 @@ enum Plain {
     Link(NodeId, NodeId),
     Unlink(NodeId, NodeId),
     Drop(NodeId),
+    Relabel(NodeId, u8),
 }
 
-use Plain::{Drop as Gone, Link, Node, Unlink};
+use Plain::{Drop as Gone, Link, Node, Relabel, Unlink};
 
 type Outcome = Result<Verdict, Refusal>;
 
@@ -67,6 +68,21 @@ const ROWS: &[(&[Plain], Outcome)] = &[
     // one label more, which may come twice, and no other
     (&[Node(b'b'), Node(b'b'), Node(b'a')], Ok(Verdict::New)),
     (&[Node(b'b'), Node(b'c')], Err(Refusal::Limit)),
+    // a node gets another label, or the one that it has
+    (&[Relabel(1, b'b')], Ok(Verdict::New)),
+    (&[Relabel(1, b'a')], Ok(Verdict::Same)),
+    (&[Relabel(1, b'a'), Link(0, 1)], Ok(Verdict::Same)),
+    (&[Relabel(1, b'b'), Relabel(1, b'a')], Ok(Verdict::New)),
+    (&[Relabel(3, b'a')], Err(Refusal::NoNode)),
+    (&[Node(b'a'), Relabel(3, b'b')], Ok(Verdict::New)),
+    (&[Relabel(3, b'b'), Node(b'a')], Err(Refusal::NoNode)),
+    (&[Gone(2), Relabel(2, b'a')], Err(Refusal::NoNode)),
+    // so a label comes, and no second
+    (&[Relabel(1, b'b'), Relabel(2, b'b')], Ok(Verdict::New)),
+    (&[Relabel(1, b'b'), Relabel(1, b'c')], Err(Refusal::Limit)),
+    (&[Relabel(1, b'b'), Node(b'c')], Err(Refusal::Limit)),
+    (&[Node(b'b'), Relabel(1, b'c')], Err(Refusal::Limit)),
+    (&[Node(b'b'), Relabel(9, b'c')], Err(Refusal::NoNode)),
 ];
 
 fn step_of(alloc: Global, plain: Plain) -> Result<Step, Fail> {
@@ -75,6 +91,7 @@ fn step_of(alloc: Global, plain: Plain) -> Result<Step, Fail> {
         Link(u, v) => Ok(Step::Link(u, v)),
         Unlink(u, v) => Ok(Step::Unlink(u, v)),
         Gone(u) => Ok(Step::Drop(u)),
+        Relabel(u, byte) => Ok(Step::Relabel(u, Text::from_bytes(alloc, &[byte])?)),
     }
 }
 
@@ -89,8 +106,8 @@ fn change_of(alloc: Global, plains: &[Plain]) -> Result<Change, Fail> {
 const MOST: u32 = 1 << 30;
 
 fn put_node(graph: &mut Graph, alloc: Global) -> Result<(), Fail> {
-    if graph.created() >= MOST {
-        return Err("there are too many nodes".into());
+    if graph.created() >= MOST || graph.labels().len() >= MOST {
+        return Err("there are too many nodes or labels".into());
     }
     graph.reserve_node(alloc, &Text::from_bytes(alloc, b"a")?)?;
     graph.add_node();
@@ -142,5 +159,7 @@ fn steps_and_names(rt: HostRuntime) -> Result<(), Fail> {
     change.push(Step::Link(0, 1))?;
     assert!(rt; change.steps().len() == 2 && change.may_name(2) && change.may_name(0));
     assert!(rt; !change.may_name(3) && is_dropped(change.steps(), 2));
+    change.push(step_of(rt.alloc(), Relabel(3, b'b'))?)?;
+    assert!(rt; change.may_name(3) && !is_dropped(change.steps(), 3));
     Ok(())
 }

@@ -1,9 +1,10 @@
 -- The labels of a graph that steps leave, and their numbers.
 use Rattle.std.proofs.Common.{◌≡◌, ℕ, zero, suc, ◌+◌, ◌-◌, ◌<◌, ◌≤◌, ◌^◌, Bool, true, false, cond, List, [], ◌∷◌, ◌++◌, length, Option, Some, None, Ok, Err, IsTrue, refl, sym, ap, ◌∙◌, subst, arith, inl, inr, nat_lt, get_or, take, length-append, true≢false}
-use Rattle.std.specs.Prelude.{◌||◌, not, is_some, IfSome, IfNone, Result, option_and_then, slice_get, slice_set, position, bytes_eq, if◌then◌else◌}
+use Rattle.std.specs.Prelude.{◌||◌, not, is_some, Result, nat_eq, option_and_then, option_map, slice_get, position, bytes_eq, if◌then◌else◌}
 use Rattle.std.specs.List.{list_any, prefix_len, position_or_len}
-use Rattle.std.proofs.lemmas.Bool.{cases_Bool, and_parts}
-use Rattle.std.proofs.lemmas.Bool.Decides.{nat_tests}
+use Rattle.std.specs.Option.{option_or}
+use Rattle.std.proofs.lemmas.Bool.{cases_Bool, and_parts, or_parts, eqb-true, eqb-false}
+use Rattle.std.proofs.lemmas.Bool.Decides.{eqb_tells, nat_tests}
 use Rattle.std.proofs.lemmas.List.Quantifiers.{position-Some}
 use Rattle.std.proofs.lemmas.Option.{slice_get-get_or}
 use Rattle.std.proofs.lemmas.Slice.Eq.{bytes_eq-Decides}
@@ -15,15 +16,16 @@ use Rattle.graph_spec.specs.Changes.{with_node, with_label, node_fits}
 use Rattle.graph_spec.proofs.ListLemmas.{found, is_found}
 use Rattle.label_graph.specs.GraphViews.{label_number}
 use Rattle.change_spec.specs.Steps.{Step, node, link, unlink, drop, relabel, made, after, apply_step, apply_all, label_fits, labelled}
-use Rattle.change_spec.proofs.StepGraphs.{first_made, stepped}
-use Rattle.change_spec.proofs.StepPlaces.{label_added, label_last, label_none, given_set}
+use Rattle.change_spec.specs.Places.{CanMake}
+use Rattle.change_spec.specs.Named.{names, is_named}
+use Rattle.change_spec.proofs.StepGraphs.{first_made, stepped, label_other, label_gone, label_given}
+use Rattle.change_spec.proofs.StepPlaces.{label_added, label_last, given_made}
 use Rattle.change_spec.proofs.Accepted.{accepted_all}
 use Rattle.graph_steps.specs.NewChanges.{IsNew}
 use Rattle.graph_steps.specs.StepLists.{step_of, steps_of}
 use Rattle.graph_steps.specs.declared.changes.Step.{Step as Asked}
-use Rattle.graph_steps.specs.declared.changes.Step.TheVariants.{Node, Link, Unlink, Drop}
 use Rattle.graph_steps.proofs.GrownCounts.{is_some-position}
-use Rattle.graph_update.specs.PendingChanges.{nth_label}
+use Rattle.graph_update.specs.PendingChanges.{given_by}
 
 -- ---- numbers
 
@@ -61,6 +63,7 @@ kept_number seen t p l e = elim (is_seen seen t) as (λ b. position p (if b then
   | false ↦ position_front p seen (t ∷ []) l e
 ]
 
+-- a text that wasn't seen has the next number
 pub unseen_number : (seen : List (List ℕ)) (t : List ℕ) → is_seen seen t ≡ false → position (bytes_eq t) (with_label seen t) ≡ Some (length seen)
 unseen_number seen t none = ap (λ b. position (bytes_eq t) (if b then seen else (seen ++ t ∷ []))) none ∙ position_end (bytes_eq t) seen t ((bytes_eq-Decides t t).1 refl) none
 
@@ -174,54 +177,73 @@ number_text g n l e = option_text g.seen (label_of g n) l e
 pub number_is : (g : Graph) (n l : ℕ) (t : List ℕ) → label_of g n ≡ Some t → position (bytes_eq t) g.seen ≡ Some l → label_number g n ≡ Some l
 number_is g n l t e p = ap (option_and_then (λ r. position (bytes_eq r) g.seen)) e ∙ p
 
--- a place that is not set is as it was
-unset : (xs : List (Option (List ℕ))) (u n : ℕ) → is_some (option_and_then (λ l. l) (slice_get (slice_set xs u None) n)) ≡ true → slice_get (slice_set xs u None) n ≡ slice_get xs n
-unset [] u n h = refl
-unset (x ∷ xs) zero zero h = cc
-unset (x ∷ xs) zero (suc n) h = refl
-unset (x ∷ xs) (suc u) zero h = refl
-unset (x ∷ xs) (suc u) (suc n) h = unset xs u n h
+-- ---- the label that steps give a node
 
--- a node that is there before and after has its label
-pub label_stays : (ss : List Asked) (g : Graph) (n : ℕ) → n < length g.allocated → IsTrue (is_live (after (steps_of ss) g) n) → label_of (after (steps_of ss) g) n ≡ label_of g n
-label_stays [] g n below live = refl
-label_stays (Node t ∷ ss) g n below live =
-    let l = length-append g.allocated (Some t ∷ []) in
-    label_stays ss (made (node t) g) n (omega (arith, below, l)) live ∙ label_added g t n (λ e. (omega (arith, e, below)))
-label_stays (Link u v ∷ ss) g n below live = label_stays ss (made (link u v) g) n below live
-label_stays (Unlink u v ∷ ss) g n below live = label_stays ss (made (unlink u v) g) n below live
-label_stays (Drop u ∷ ss) g n below live =
-    let l = given_set g u None in
-    let rest = label_stays ss (made (drop u) g) n (omega (arith, below, l)) live in
-    rest ∙ ap (λ o. option_and_then (λ l. l) o) (unset g.allocated u n (sym (ap is_some rest) ∙ live))
+chosen : (b : Bool) (t r : List ℕ) → (if b then Some t else None) ≡ Some r → (b ≡ true) × (t ≡ r)
+chosen true t r e = (refl, cc)
+chosen false t r e = cc
+
+refused : (b : Bool) (t : List ℕ) → (if b then Some t else None) ≡ None → b ≡ false
+refused true t e = cc
+refused false t e = refl
+
+-- the node has the label that a step gives it
+given_here : (s : Step) (h : Graph) (n : ℕ) (t : List ℕ) → CanMake s h → given_by s (length h.allocated) n ≡ Some t → label_of (made s h) n ≡ Some t
+given_here (node r) h n t can e =
+    let c = chosen (nat_eq n (length h.allocated)) r t e in
+    ap (label_of (with_node h r)) (eqb-true n (length h.allocated) c.0) ∙ label_last h r ∙ ap Some c.1
+given_here (link u v) h n t can e = cc
+given_here (unlink u v) h n t can e = cc
+given_here (drop u) h n t can e = cc
+given_here (relabel u r) h n t can e =
+    let c = chosen (nat_eq n u) r t e in
+    ap (label_of (labelled h u r)) (eqb-true n u c.0) ∙ label_given h u r can ∙ ap Some c.1
+
+-- or the one that it had
+given_kept : (s : Step) (h : Graph) (n : ℕ) → given_by s (length h.allocated) n ≡ None → IsTrue (is_live (made s h) n) → label_of (made s h) n ≡ label_of h n
+given_kept (node r) h n e live = label_added h r n (eqb-false n (length h.allocated) (refused (nat_eq n (length h.allocated)) r e))
+given_kept (link u v) h n e live = refl
+given_kept (unlink u v) h n e live = refl
+given_kept (drop u) h n e live = elim (eqb_tells n u) [
+  | inl i ↦ absurd (true≢false (sym live ∙ ap (is_live (made (drop u) h)) i.1 ∙ ap is_some (label_gone h u)))
+  | inr d ↦ label_other h.allocated u n None d.1
+]
+given_kept (relabel u r) h n e live = label_other h.allocated u n (Some r) (eqb-false n u (refused (nat_eq n u) r e))
+
+-- so with one step more
+pub given_next : (s : Step) (h : Graph) (n : ℕ) (given before : Option (List ℕ)) → CanMake s h → (IsTrue (is_live h n) → label_of h n ≡ option_or given before) → IsTrue (is_live (made s h) n)
+    → label_of (made s h) n ≡ option_or (option_or (given_by s (length h.allocated) n) given) before
+given_next s h n given before can prior live = next (given_by s (length h.allocated) n) refl
+  where
+    next : (o : Option (List ℕ)) → given_by s (length h.allocated) n ≡ o → label_of (made s h) n ≡ option_or (option_or o given) before
+    next None e = (let same = given_kept s h n e live in same ∙ prior (ap is_some (sym same) ∙ live))
+    next (Some t) e = given_here s h n t can e
+
+-- an older label counts where there is no newer one
+pub newer : {X : Type 0} (f : X → List ℕ) (a b : Option X) → option_map f (option_or a b) ≡ option_or (option_map f a) (option_map f b)
+newer f None b = refl
+newer f (Some x) b = refl
+
+-- a node that no step names keeps its label
+pub label_unnamed : (c : List Step) (g : Graph) (n : ℕ) → n < length g.allocated → is_named c n ≡ false → label_of (after c g) n ≡ label_of g n
+label_unnamed [] g n below off = refl
+label_unnamed (s ∷ ss) g n below off =
+    let both = or_parts (names n s) (is_named ss n) off in
+    let more = given_made s g in
+    label_unnamed ss (made s g) n (omega (arith, below, more)) both.1 ∙ one s both.0
+  where
+    one : (s : Step) → names n s ≡ false → label_of (made s g) n ≡ label_of g n
+    one (node t) h = label_added g t n (λ e. omega (arith, e, below))
+    one (link u v) h = refl
+    one (unlink u v) h = refl
+    one (drop u) h = label_other g.allocated u n None (eqb-false n u h)
+    one (relabel u t) h = label_other g.allocated u n (Some t) (eqb-false n u h)
 
 kept_option : (c : List Step) (g : Graph) (o : Option (List ℕ)) (l : ℕ) → option_and_then (λ t. position (bytes_eq t) g.seen) o ≡ Some l → option_and_then (λ t. position (bytes_eq t) (after c g).seen) o ≡ Some l
 kept_option c g None l e = cc
 kept_option c g (Some t) l e = number_stays c g (bytes_eq t) l e
 
--- and its number
-pub number_kept : (ss : List Asked) (g : Graph) (n l : ℕ) → n < length g.allocated → IsTrue (is_live (after (steps_of ss) g) n) → label_number g n ≡ Some l → label_number (after (steps_of ss) g) n ≡ Some l
-number_kept ss g n l below live e =
-    ap (option_and_then (λ t. position (bytes_eq t) (after (steps_of ss) g).seen)) (label_stays ss g n below live) ∙ kept_option (steps_of ss) g (label_of g n) l e
-
--- a node that is added has the label of its step
-pub label_comes : (ss : List Asked) (g : Graph) (n k : ℕ) → n ≡ length g.allocated + k → IsTrue (is_live (after (steps_of ss) g) n) → label_of (after (steps_of ss) g) n ≡ nth_label (steps_of ss) k
-label_comes [] g n k e live = absurd (let none = label_none g n (omega (arith, e)) in true≢false (sym live ∙ ap is_some none))
-label_comes (Node t ∷ ss) g n zero e live =
-    let l = length-append g.allocated (Some t ∷ []) in
-    let same : n ≡ length g.allocated = omega (arith, e) in
-    label_stays ss (made (node t) g) n (omega (arith, e, l)) live ∙ ap (label_of (with_node g t)) same ∙ label_last g t
-label_comes (Node t ∷ ss) g n (suc k) e live = (let l = length-append g.allocated (Some t ∷ []) in label_comes ss (made (node t) g) n k (omega (arith, e, l)) live)
-label_comes (Link u v ∷ ss) g n k e live = label_comes ss (made (link u v) g) n k e live
-label_comes (Unlink u v ∷ ss) g n k e live = label_comes ss (made (unlink u v) g) n k e live
-label_comes (Drop u ∷ ss) g n k e live = (let l = given_set g u None in label_comes ss (made (drop u) g) n k (omega (arith, e, l)) live)
-
--- an option that can't be none
-pub is_there : {X : Type 0} (o : Option X) (A : Type 0) → IfNone o A → (A → ⊥) → is_some o ≡ true
-is_there None A h out = absurd (out h)
-is_there (Some x) A h out = refl
-
--- what holds of an option's value
-pub some_holds : {X : Type 0} (P : X → Type 0) (o : Option X) (x : X) → IfSome o P → o ≡ Some x → P x
-some_holds P None x h e = cc
-some_holds P (Some y) x h e = (let same : y ≡ x = cc in subst P same h)
+-- where it keeps its label, it keeps the number
+pub number_kept : (c : List Step) (g : Graph) (n l : ℕ) → label_of (after c g) n ≡ label_of g n → label_number g n ≡ Some l → label_number (after c g) n ≡ Some l
+number_kept c g n l same e =
+    ap (option_and_then (λ t. position (bytes_eq t) (after c g).seen)) same ∙ kept_option c g (label_of g n) l e

@@ -1,5 +1,5 @@
 -- Steps that are planned, and how the plans are made.
-use Rattle.std.proofs.Common.{◌≡◌, ℕ, zero, suc, ◌<◌, ◌≤◌, ◌^◌, Bool, true, false, List, [], ◌∷◌, ◌++◌, length, Option, Some, None, Ok, Err, refl, sym, ap, ◌∙◌, subst, arith, nat_eq, nat_lt, inl, inr, true≢false}
+use Rattle.std.proofs.Common.{◌≡◌, ℕ, zero, suc, ◌<◌, ◌≤◌, ◌^◌, Bool, true, false, cond, List, [], ◌∷◌, ◌++◌, length, Option, Some, None, Ok, Err, refl, sym, ap, ◌∙◌, subst, arith, nat_eq, nat_lt, inl, inr, true≢false}
 use Rattle.std.specs.Prelude.{◌&&◌, ◌||◌, map, if◌then◌else◌, Result, slice_get, slice_set, option_and_then, bytes_eq}
 use Rattle.std.specs.FinSet as set
 use Rattle.std.proofs.lemmas.Bool.{cases_Bool, and_parts}
@@ -11,59 +11,17 @@ use Rattle.graph_spec.specs.Graphs.{Graph, IsGraph, label_of, is_live, has_edge,
 use Rattle.graph_spec.specs.Changes.{with_node, with_edge, without_edge, with_label, node_fits, edge_fits}
 use Rattle.graph_spec.proofs.EdgeOrder.{edge_cmp_total, edge_cmp-IsAntisymmetric}
 use Rattle.bisim_spec.proofs.EdgeSets.{eq, eq_is}
-use Rattle.change_spec.specs.Steps.{Step, node, link, unlink, drop, relabel, made, without_node, is_idle, is_text, apply_step, apply_all, after}
+use Rattle.change_spec.specs.Steps.{Step, node, link, unlink, drop, relabel, made, without_node, labelled, is_idle, is_text, label_fits, apply_step, apply_all, after}
 use Rattle.change_spec.specs.Places.{CanMake, CanMakeAll}
 use Rattle.change_spec.proofs.StepGraphs.{stepped, graph_made, first_made}
 use Rattle.change_spec.proofs.StepPlaces.{graph_can}
 use Rattle.change_spec.proofs.Accepted.{applied_can, accepted_all}
 use Rattle.graph_steps.specs.NewChanges.{IsNew}
-use Rattle.label_graph.specs.ReservedGraphs.{ReservedGraph, none_reserved, is_pair, has_pair, without_pair}
+use Rattle.graph_steps.proofs.IdleSteps.{idle_same}
+use Rattle.label_graph.specs.ReservedGraphs.{ReservedGraph, FitsLabels, FirstFitsLabels, none_reserved, is_pair, has_pair, has_text, without_pair, without_text}
 use Rattle.graph_update.specs.declared.staging.Plan.{Plan}
-use Rattle.graph_update.specs.declared.staging.Plan.TheVariants.{Node, Link, Unlink, Drop}
-use Rattle.graph_update.specs.StagedChanges.{effective, needed_labels, needed_pairs, plan_of, IsStaged, HasEffect, HaveEffect, ArePlanned, CanBeMade, IsMadeBy}
-
--- ---- idle steps
-
-edge_there : (g : Graph) (u v : ℕ) → has_edge g u v ≡ true → with_edge g u v ≡ g
-edge_there g u v there = ap (λ es. record g { edges = es }) (set.same_set edge_cmp_total edge_cmp-IsAntisymmetric (set.insert g.edges (u, v)) g.edges (λ k.
-    set.contains-insert edge_cmp_total g.edges (u, v) k ∙ same k))
-  where
-    same : (k : ℕ × ℕ) → (eq k (u, v) || set.contains g.edges k) ≡ set.contains g.edges k
-    same k = elim (cases_Bool (eq k (u, v))) [
-      | inl h ↦ (let on : set.contains g.edges k ≡ true = ap (set.contains g.edges) (eq_is k (u, v) h) ∙ there in ap (λ b. b || set.contains g.edges k) h ∙ sym on)
-      | inr h ↦ ap (λ b. b || set.contains g.edges k) h
-    ]
-
-text_is : (t : List ℕ) (o : Option (List ℕ)) → is_text t o ≡ true → o ≡ Some t
-text_is t None h = absurd (true≢false (sym h))
-text_is t (Some r) h = ap Some (sym (same t r h))
-  where
-    same : (a b : List ℕ) → bytes_eq a b ≡ true → a ≡ b
-    same [] [] h = refl
-    same [] (y ∷ ys) h = absurd (true≢false (sym h))
-    same (x ∷ xs) [] h = absurd (true≢false (sym h))
-    same (x ∷ xs) (y ∷ ys) h =
-        let both = and_parts (nat_eq x y) (bytes_eq xs ys) h in
-        elim (eqb_tells x y) [ inl e ↦ (λ i. e.1 i ∷ same xs ys both.1 i) | inr d ↦ absurd (true≢false (sym both.0 ∙ d.0)) ]
-
-label_there : (given : List (Option (List ℕ))) (u : ℕ) (t : List ℕ) → option_and_then (λ l. l) (slice_get given u) ≡ Some t → slice_set given u (Some t) ≡ given
-label_there [] u t h = refl
-label_there (x ∷ xs) zero t h = ap (λ o. o ∷ xs) (sym (plain x h))
-  where
-    plain : (o : Option (List ℕ)) → option_and_then (λ l. l) (Some o) ≡ Some t → o ≡ Some t
-    plain o h = h
-label_there (x ∷ xs) (suc u) t h = ap (λ ys. x ∷ ys) (label_there xs u t h)
-
--- a step that is idle leaves the graph as it is
-idle_same : (s : Step) (g : Graph) → IsGraph g → is_idle s g ≡ true → made s g ≡ g
-idle_same (node t) g s h = absurd (true≢false (sym h))
-idle_same (link u v) g s h = edge_there g u v h
-idle_same (unlink u v) g s h = absurd (true≢false (sym h))
-idle_same (drop u) g s h = absurd (true≢false (sym h))
-idle_same (relabel u t) g s h =
-    let label = text_is t (label_of g u) h in
-    ap (λ xs. record g { allocated = xs; seen = with_label g.seen t }) (label_there g.allocated u t label)
-    ∙ ap (λ (b : Bool). record g { seen = if b then g.seen else g.seen ++ t ∷ [] }) (s.labelled u t label)
+use Rattle.graph_update.specs.declared.staging.Plan.TheVariants.{Node, Link, Unlink, Drop, Relabel}
+use Rattle.graph_update.specs.StagedChanges.{effective, needed_labels, needed_pairs, needed_relabels, plan_of, IsStaged, HasEffect, HaveEffect, ArePlanned, CanBeMade, IsMadeBy}
 
 -- ---- steps that aren't
 
@@ -74,11 +32,15 @@ passes false r e h p = cc
 under : (a b c : ℕ) → nat_lt a b ≡ true → b ≤ c → a < c
 under a b c h k = grind (arith, nat_tests)
 
+fits_labels : (g : Graph) (t : List ℕ) (limits : Limits) → label_fits g limits t ≡ true → FitsLabels g t
+fits_labels g t limits h = λ unseen.
+    under (length g.seen) limits.labels (2 ^ 30) (sym (ap (λ b. b || nat_lt (length g.seen) limits.labels) unseen) ∙ h) limits.labels_bounded
+
 has_effect : (s : Step) (g h : Graph) (limits : Limits) → CanMake s g → apply_step s g limits ≡ Ok h → is_idle s g ≡ false → HasEffect s g
 has_effect (node t) g h limits can e busy =
     let fits = passes (node_fits g limits t) (Ok (with_node g t)) Limit h e in
     let one = and_parts (nat_lt (length g.allocated) limits.nodes) (is_seen g.seen t || nat_lt (length g.seen) limits.labels) fits.0 in
-    under (length g.allocated) limits.nodes (2 ^ 30) one.0 limits.nodes_bounded
+    (under (length g.allocated) limits.nodes (2 ^ 30) one.0 limits.nodes_bounded, fits_labels g t limits one.1)
 has_effect (link u v) g h limits can e busy =
     let outer = passes (is_live g u && is_live g v) (if edge_fits g limits u v then Ok (with_edge g u v) else Err Limit) NoNode h e in
     let fits = (passes (edge_fits g limits u v) (Ok (with_edge g u v)) Limit h outer.1).0 in
@@ -86,7 +48,9 @@ has_effect (link u v) g h limits can e busy =
     (can.0, can.1, busy, under (set.len g.edges) limits.edges (2 ^ 30) room limits.edges_bounded)
 has_effect (unlink u v) g h limits can e busy = can.2
 has_effect (drop u) g h limits can e busy = can
-has_effect (relabel u t) g h limits can e busy = can
+has_effect (relabel u t) g h limits can e busy =
+    let live = passes (is_live g u) (if label_fits g limits t then Ok (labelled g u t) else Err Limit) NoNode h e in
+    (can, fits_labels g t limits (passes (label_fits g limits t) (Ok (labelled g u t)) Limit h live.1).0)
 
 abbrev OneOrNone : Step → List Step → Graph → Bool → Type 0
 OneOrNone s more g b = HaveEffect (if b then more else s ∷ more) g
@@ -108,7 +72,7 @@ effect_can (node t) g s h = tt
 effect_can (link u v) g s h = (h.0, h.1)
 effect_can (unlink u v) g s h = (s.from u v h, s.onto u v h, h)
 effect_can (drop u) g s h = h
-effect_can (relabel u t) g s h = h
+effect_can (relabel u t) g s h = h.0
 
 -- steps that are idle can be left out
 pub effective_leaves : (c : List Step) (g : Graph) → IsGraph g → HaveEffect (effective c g) g → after (effective c g) g ≡ after c g
@@ -133,6 +97,7 @@ staged_planned c held plans s st new = record {
   plans_are = st.plans_are;
   labels = st.labels;
   pairs = st.pairs;
+  relabels = st.relabels;
   effect = have_effect c held.graph (after c held.graph) new.limits s (accepted_all c held.graph (after c held.graph) new.limits new.accepted).1;
 }
 
@@ -144,33 +109,21 @@ steps_by (Node ∷ ps) (t ∷ ts) = node t ∷ steps_by ps ts
 steps_by (Link u v ∷ ps) ts = link u v ∷ steps_by ps ts
 steps_by (Unlink u v ∷ ps) ts = unlink u v ∷ steps_by ps ts
 steps_by (Drop u ∷ ps) ts = drop u ∷ steps_by ps ts
+steps_by (Relabel u t ∷ ps) ts = relabel u t ∷ steps_by ps ts
 
-abbrev plan_list : List Plan → List (Option Plan)
-plan_list ps = map Some ps
+first_plan : (p q : Plan) (ps qs : List Plan) → p ∷ ps ≡ q ∷ qs → (p ≡ q) × (ps ≡ qs)
+first_plan p q ps qs e = (cc, cc)
 
-first_plan : (p q : Plan) (ps : List Plan) (os : List (Option Plan)) → plan_list (p ∷ ps) ≡ Some q ∷ os → (p ≡ q) × (plan_list ps ≡ os)
-first_plan p q ps os e = ((let same : Some p ≡ Some q = cc in cc), cc)
-
-no_plan : (p : Plan) (ps : List Plan) (os : List (Option Plan)) → plan_list (p ∷ ps) ≡ None ∷ os → ⊥
-no_plan p ps os e = (let same : Some p ≡ None = cc in cc)
-
-steps_back : (plans : List Plan) (e : List Step) → plan_list plans ≡ map plan_of e → steps_by plans (needed_labels e) ≡ e
-steps_back [] [] h = refl
-steps_back [] (s ∷ ss) h = absurd (let z : [] ≡ plan_of s ∷ map plan_of ss = h in cc)
-steps_back (p ∷ ps) [] h = absurd (let z : Some p ∷ plan_list ps ≡ [] = h in cc)
-steps_back (p ∷ ps) (node t ∷ ss) h =
-    let f = first_plan p Node ps (map plan_of ss) h in
-    ap (λ q. steps_by (q ∷ ps) (t ∷ needed_labels ss)) f.0 ∙ ap (λ xs. node t ∷ xs) (steps_back ps ss f.1)
-steps_back (p ∷ ps) (link u v ∷ ss) h =
-    let f = first_plan p (Link u v) ps (map plan_of ss) h in
-    ap (λ q. steps_by (q ∷ ps) (needed_labels ss)) f.0 ∙ ap (λ xs. link u v ∷ xs) (steps_back ps ss f.1)
-steps_back (p ∷ ps) (unlink u v ∷ ss) h =
-    let f = first_plan p (Unlink u v) ps (map plan_of ss) h in
-    ap (λ q. steps_by (q ∷ ps) (needed_labels ss)) f.0 ∙ ap (λ xs. unlink u v ∷ xs) (steps_back ps ss f.1)
-steps_back (p ∷ ps) (drop u ∷ ss) h =
-    let f = first_plan p (Drop u) ps (map plan_of ss) h in
-    ap (λ q. steps_by (q ∷ ps) (needed_labels ss)) f.0 ∙ ap (λ xs. drop u ∷ xs) (steps_back ps ss f.1)
-steps_back (p ∷ ps) (relabel u t ∷ ss) h = absurd (no_plan p ps (map plan_of ss) h)
+steps_back : (plans : List Plan) (e : List Step) → plans ≡ map plan_of e → steps_by plans (needed_labels e) ≡ e
+steps_back plans e h = ap (λ ps. steps_by ps (needed_labels e)) h ∙ back e
+  where
+    back : (e : List Step) → steps_by (map plan_of e) (needed_labels e) ≡ e
+    back [] = refl
+    back (node t ∷ ss) = ap (λ xs. node t ∷ xs) (back ss)
+    back (link u v ∷ ss) = ap (λ xs. link u v ∷ xs) (back ss)
+    back (unlink u v ∷ ss) = ap (λ xs. unlink u v ∷ xs) (back ss)
+    back (drop u ∷ ss) = ap (λ xs. drop u ∷ xs) (back ss)
+    back (relabel u t ∷ ss) = ap (λ xs. relabel u t ∷ xs) (back ss)
 
 -- two changes that are staged alike leave the same graph
 module _ (b : List Step) (held : ReservedGraph) (plans : List Plan) (s : IsGraph held.graph) (staged : IsStaged b held plans) (new : IsNew b held.graph) (c : List Step) (st : IsStaged c held plans) where
@@ -184,7 +137,7 @@ module _ (b : List Step) (held : ReservedGraph) (plans : List Plan) (s : IsGraph
   effects = subst (λ e. HaveEffect e held.graph) same_steps (staged_planned b held plans s staged new).effect
 
   planned_alike : ArePlanned (effective c held.graph) held plans
-  planned_alike = record { plans_are = st.plans_are; labels = st.labels; pairs = st.pairs; effect = effects }
+  planned_alike = record { plans_are = st.plans_are; labels = st.labels; pairs = st.pairs; relabels = st.relabels; effect = effects }
 
   leaves_alike : after (effective c held.graph) held.graph ≡ after c held.graph
   leaves_alike = effective_leaves c held.graph s effects
@@ -201,11 +154,22 @@ itself n = elim (eqb_tells n n) [ inl e ↦ e.0 | inr x ↦ absurd (x.1 refl) ]
 pair_itself : (u v : ℕ) → is_pair u v (u, v) ≡ true
 pair_itself u v = ap (λ b. b && nat_eq v v) (itself u) ∙ itself v
 
+no_plan : (p : Plan) (ps : List Plan) → p ∷ ps ≡ [] → ⊥
+no_plan p ps e = (let z : p ∷ ps ≡ [] = e in cc)
+
+-- the first label fits, where it is that of the first step
+first_fits : (held : ReservedGraph) (t : List ℕ) (ts : List (List ℕ)) → held.reserved.labels ≡ t ∷ ts → FitsLabels held.graph t → FirstFitsLabels held
+first_fits held t ts is fits = λ r more e. (let z : r ∷ more ≡ t ∷ ts = sym e ∙ is in let same : t ≡ r = cc in subst (FitsLabels held.graph) same fits)
+
+text_itself : (t : List ℕ) → bytes_eq t t ≡ true
+text_itself [] = refl
+text_itself (x ∷ xs) = ap (λ b. b && bytes_eq xs xs) (itself x) ∙ text_itself xs
+
 pub can_first : (e : List Step) (held : ReservedGraph) (p : Plan) (ps : List Plan) → ArePlanned e held (p ∷ ps) → CanBeMade p held
-can_first [] held p ps a = absurd (let z : Some p ∷ plan_list ps ≡ [] = a.plans_are in cc)
+can_first [] held p ps a = absurd (no_plan p ps a.plans_are)
 can_first (node t ∷ ss) held p ps a =
     let f = first_plan p Node ps (map plan_of ss) a.plans_are in
-    subst (λ q. CanBeMade q held) (sym f.0) ((let l = ap length a.labels in omega (arith, l)), a.effect.0)
+    subst (λ q. CanBeMade q held) (sym f.0) ((let l = ap length a.labels in omega (arith, l)), a.effect.0.0, first_fits held t (needed_labels ss) a.labels a.effect.0.1)
 can_first (link u v ∷ ss) held p ps a =
     let f = first_plan p (Link u v) ps (map plan_of ss) a.plans_are in
     subst (λ q. CanBeMade q held) (sym f.0)
@@ -216,7 +180,10 @@ can_first (unlink u v ∷ ss) held p ps a =
 can_first (drop u ∷ ss) held p ps a =
     let f = first_plan p (Drop u) ps (map plan_of ss) a.plans_are in
     subst (λ q. CanBeMade q held) (sym f.0) a.effect.0
-can_first (relabel u t ∷ ss) held p ps a = absurd (no_plan p ps (map plan_of ss) a.plans_are)
+can_first (relabel u t ∷ ss) held p ps a =
+    let f = first_plan p (Relabel u t) ps (map plan_of ss) a.plans_are in
+    subst (λ q. CanBeMade q held) (sym f.0)
+    (ap (λ ts. has_text ts t) a.relabels ∙ ap (λ b. b || has_text (needed_relabels ss) t) (text_itself t), a.effect.0)
 
 -- what is left to be made, where these steps are to be made of that graph
 pub record AreLeft (e : List Step) (g : Graph) (held : ReservedGraph) (plans : List Plan) : Type 0 where
@@ -231,8 +198,8 @@ pub left_none : (e : List Step) (g : Graph) (held : ReservedGraph) → AreLeft e
 left_none e g held a = none a.rest a.planned a.leaves
   where
     none : (rest : List Step) → ArePlanned rest held [] → after rest held.graph ≡ after e g → held ≡ record { graph = after e g; reserved = none_reserved }
-    none [] p l = λ i. record { graph = l i; reserved = record { labels = p.labels i; pairs = p.pairs i } }
-    none (x ∷ xs) p l = absurd (let z : [] ≡ plan_of x ∷ map plan_of xs = p.plans_are in cc)
+    none [] p l = λ i. record { graph = l i; reserved = record { labels = p.labels i; pairs = p.pairs i; relabels = p.relabels i } }
+    none (x ∷ xs) p l = absurd (no_plan (plan_of x) (map plan_of xs) (sym p.plans_are))
 
 abbrev IsNext : List Step → Graph → List Plan → ReservedGraph → Type 0
 IsNext e g plans held = AreLeft e g held plans
@@ -241,34 +208,41 @@ pub left_next : (e : List Step) (g : Graph) (held new : ReservedGraph) (p : Plan
 left_next e g held new p ps a m = next a.rest a.planned a.leaves
   where
     next : (rest : List Step) → ArePlanned rest held (p ∷ ps) → after rest held.graph ≡ after e g → AreLeft e g new ps
-    next [] w l = absurd (let z : Some p ∷ plan_list ps ≡ [] = w.plans_are in cc)
+    next [] w l = absurd (no_plan p ps w.plans_are)
     next (node t ∷ ss) w l =
         let f = first_plan p Node ps (map plan_of ss) w.plans_are in
         let is = subst (λ q. IsMadeBy q held new) f.0 m t (needed_labels ss) w.labels in
-        let here : IsNext e g ps (record { graph = with_node held.graph t; reserved = record { labels = needed_labels ss; pairs = held.reserved.pairs } }) =
-        record { rest = ss; planned = record { plans_are = f.1; labels = refl; pairs = w.pairs; effect = w.effect.1 }; leaves = l } in
+        let here : IsNext e g ps (record { graph = with_node held.graph t; reserved = record held.reserved { labels = needed_labels ss } }) =
+        record { rest = ss; planned = record { plans_are = f.1; labels = refl; pairs = w.pairs; relabels = w.relabels; effect = w.effect.1 }; leaves = l } in
         subst (IsNext e g ps) (sym is) here
     next (link u v ∷ ss) w l =
         let f = first_plan p (Link u v) ps (map plan_of ss) w.plans_are in
         let is = subst (λ q. IsMadeBy q held new) f.0 m in
         let taken : without_pair held.reserved.pairs u v ≡ needed_pairs ss =
         ap (λ qs. without_pair qs u v) w.pairs ∙ ap (λ (b : Bool). if b then needed_pairs ss else (u, v) ∷ without_pair (needed_pairs ss) u v) (pair_itself u v) in
-        let here : IsNext e g ps (record { graph = with_edge held.graph u v; reserved = record { labels = held.reserved.labels; pairs = without_pair held.reserved.pairs u v } }) =
-        record { rest = ss; planned = record { plans_are = f.1; labels = w.labels; pairs = taken; effect = w.effect.1 }; leaves = l } in
+        let here : IsNext e g ps (record { graph = with_edge held.graph u v; reserved = record held.reserved { pairs = without_pair held.reserved.pairs u v } }) =
+        record { rest = ss; planned = record { plans_are = f.1; labels = w.labels; pairs = taken; relabels = w.relabels; effect = w.effect.1 }; leaves = l } in
         subst (IsNext e g ps) (sym is) here
     next (unlink u v ∷ ss) w l =
         let f = first_plan p (Unlink u v) ps (map plan_of ss) w.plans_are in
         let is = subst (λ q. IsMadeBy q held new) f.0 m in
         let here : IsNext e g ps (record { graph = without_edge held.graph u v; reserved = held.reserved }) =
-        record { rest = ss; planned = record { plans_are = f.1; labels = w.labels; pairs = w.pairs; effect = w.effect.1 }; leaves = l } in
+        record { rest = ss; planned = record { plans_are = f.1; labels = w.labels; pairs = w.pairs; relabels = w.relabels; effect = w.effect.1 }; leaves = l } in
         subst (IsNext e g ps) (sym is) here
     next (drop u ∷ ss) w l =
         let f = first_plan p (Drop u) ps (map plan_of ss) w.plans_are in
         let is = subst (λ q. IsMadeBy q held new) f.0 m in
         let here : IsNext e g ps (record { graph = without_node held.graph u; reserved = held.reserved }) =
-        record { rest = ss; planned = record { plans_are = f.1; labels = w.labels; pairs = w.pairs; effect = w.effect.1 }; leaves = l } in
+        record { rest = ss; planned = record { plans_are = f.1; labels = w.labels; pairs = w.pairs; relabels = w.relabels; effect = w.effect.1 }; leaves = l } in
         subst (IsNext e g ps) (sym is) here
-    next (relabel u t ∷ ss) w l = absurd (no_plan p ps (map plan_of ss) w.plans_are)
+    next (relabel u t ∷ ss) w l =
+        let f = first_plan p (Relabel u t) ps (map plan_of ss) w.plans_are in
+        let is = subst (λ q. IsMadeBy q held new) f.0 m in
+        let taken : without_text held.reserved.relabels t ≡ needed_relabels ss =
+        ap (λ ts. without_text ts t) w.relabels ∙ ap (λ (b : Bool). cond b (needed_relabels ss) (t ∷ without_text (needed_relabels ss) t)) (text_itself t) in
+        let here : IsNext e g ps (record { graph = labelled held.graph u t; reserved = record held.reserved { relabels = without_text held.reserved.relabels t } }) =
+        record { rest = ss; planned = record { plans_are = f.1; labels = w.labels; pairs = w.pairs; relabels = taken; effect = w.effect.1 }; leaves = l } in
+        subst (IsNext e g ps) (sym is) here
 
 -- what `stage` asks of each step, where k and h are the change and the graph
 pub new_can : (c k : List Step) (g h : Graph) → IsNew c g → k ≡ c → h ≡ g → CanMakeAll k h

@@ -9,10 +9,10 @@ use Rattle.change_spec.specs.Places.{CanMakeAll}
 use Rattle.change_spec.specs.Named.{is_dropped}
 use Rattle.change_spec.proofs.NamedNodes.{live_after}
 use Rattle.change_spec.proofs.StepPlaces.{given_set}
-use Rattle.label_graph.specs.ReservedGraphs.{ReservedGraph, none_reserved, with_reserved_label, with_reserved_pair, can_be_joined}
+use Rattle.label_graph.specs.ReservedGraphs.{ReservedGraph, Reservation, none_reserved, with_reserved_label, with_reserved_pair, with_reserved_relabel, can_be_joined}
 use Rattle.graph_update.specs.declared.staging.Plan.{Plan}
-use Rattle.graph_update.specs.declared.staging.Plan.TheVariants.{Node, Link, Unlink, Drop}
-use Rattle.graph_update.specs.StagedChanges.{effective, needed_labels, needed_pairs, plan_of, IsStaged}
+use Rattle.graph_update.specs.declared.staging.Plan.TheVariants.{Node, Link, Unlink, Drop, Relabel}
+use Rattle.graph_update.specs.StagedChanges.{effective, needed_labels, needed_pairs, needed_relabels, plan_of, IsStaged}
 
 chosen : (b : Bool) (x : Step) (more rest last : List Step) → more ≡ rest ++ last → (if b then more else x ∷ more) ≡ (if b then rest else x ∷ rest) ++ last
 chosen true x more rest last e = e
@@ -40,52 +40,75 @@ pairs_joined (unlink u v ∷ ss) b = pairs_joined ss b
 pairs_joined (drop u ∷ ss) b = pairs_joined ss b
 pairs_joined (relabel u t ∷ ss) b = pairs_joined ss b
 
+relabels_joined : (a b : List Step) → needed_relabels (a ++ b) ≡ needed_relabels a ++ needed_relabels b
+relabels_joined [] b = refl
+relabels_joined (node t ∷ ss) b = relabels_joined ss b
+relabels_joined (link u v ∷ ss) b = relabels_joined ss b
+relabels_joined (unlink u v ∷ ss) b = relabels_joined ss b
+relabels_joined (drop u ∷ ss) b = relabels_joined ss b
+relabels_joined (relabel u t ∷ ss) b = ap (λ ts. t ∷ ts) (relabels_joined ss b)
+
 -- nothing is staged before the first step
 pub staged_none : (held : ReservedGraph) (plans : List Plan) → held.reserved ≡ none_reserved → plans ≡ [] → IsStaged [] held plans
-staged_none held plans r p = record { plans_are = ap (map Some) p; labels = ap (λ k. k.labels) r; pairs = ap (λ k. k.pairs) r }
+staged_none held plans r p = record { plans_are = p; labels = ap (λ k. k.labels) r; pairs = ap (λ k. k.pairs) r; relabels = ap (λ k. k.relabels) r }
+
+-- what is reserved for more steps
+abbrev with_needed : Reservation → List Step → Reservation
+with_needed r more = record { labels = r.labels ++ needed_labels more; pairs = r.pairs ++ needed_pairs more; relabels = r.relabels ++ needed_relabels more }
 
 module _ (c : List Step) (s : Step) (old new : ReservedGraph) (plans plans2 : List Plan) (more : List Step) where
-  staged_more : effective (s ∷ []) (after c old.graph) ≡ more → new.graph ≡ old.graph → IsStaged c old plans → map Some plans2 ≡ map Some plans ++ map plan_of more
-      → new.reserved.labels ≡ old.reserved.labels ++ needed_labels more → new.reserved.pairs ≡ old.reserved.pairs ++ needed_pairs more → IsStaged (c ++ s ∷ []) new plans2
-  staged_more e same st p l q = record {
+  staged_more : effective (s ∷ []) (after c old.graph) ≡ more → new.graph ≡ old.graph → IsStaged c old plans → plans2 ≡ plans ++ map plan_of more
+      → new.reserved ≡ with_needed old.reserved more → IsStaged (c ++ s ∷ []) new plans2
+  staged_more e same st p r = record {
     plans_are = p ∙ ap (λ x. x ++ map plan_of more) st.plans_are ∙ sym (map-append plan_of (effective c old.graph) more) ∙ ap (map plan_of) whole;
-    labels = l ∙ ap (λ x. x ++ needed_labels more) st.labels ∙ sym (labels_joined (effective c old.graph) more) ∙ ap needed_labels whole;
-    pairs = q ∙ ap (λ x. x ++ needed_pairs more) st.pairs ∙ sym (pairs_joined (effective c old.graph) more) ∙ ap needed_pairs whole;
+    labels = ap (λ k. k.labels) r ∙ ap (λ x. x ++ needed_labels more) st.labels ∙ sym (labels_joined (effective c old.graph) more) ∙ ap needed_labels whole;
+    pairs = ap (λ k. k.pairs) r ∙ ap (λ x. x ++ needed_pairs more) st.pairs ∙ sym (pairs_joined (effective c old.graph) more) ∙ ap needed_pairs whole;
+    relabels = ap (λ k. k.relabels) r ∙ ap (λ x. x ++ needed_relabels more) st.relabels ∙ sym (relabels_joined (effective c old.graph) more) ∙ ap needed_relabels whole;
   }
     where
       whole : effective c old.graph ++ more ≡ effective (c ++ s ∷ []) new.graph
       whole = ap (λ m. effective c old.graph ++ m) (sym e) ∙ sym (effective_more c s old.graph) ∙ ap (effective (c ++ s ∷ [])) (sym same)
 
-one_plan : (plans plans2 : List Plan) (p : Plan) → plans2 ≡ plans ++ p ∷ [] → map Some plans2 ≡ map Some plans ++ Some p ∷ []
-one_plan plans plans2 p e = ap (map Some) e ∙ map-append Some plans (p ∷ [])
+-- nothing more is reserved
+same_needed : (r : Reservation) → r ≡ record { labels = r.labels ++ []; pairs = r.pairs ++ []; relabels = r.relabels ++ [] }
+same_needed r i = record { labels = sym (append-nil r.labels) i; pairs = sym (append-nil r.pairs) i; relabels = sym (append-nil r.relabels) i }
 
 pub staged_node : (c : List Step) (t : List ℕ) (old new : ReservedGraph) (plans plans2 : List Plan) → new.graph ≡ old.graph → new.reserved ≡ with_reserved_label old.reserved t
     → plans2 ≡ plans ++ Node ∷ [] → IsStaged c old plans → IsStaged (c ++ node t ∷ []) new plans2
 staged_node c t old new plans plans2 same r p st =
-    staged_more c (node t) old new plans plans2 (node t ∷ []) refl same st (one_plan plans plans2 Node p) (ap (λ k. k.labels) r)
-    (ap (λ k. k.pairs) r ∙ sym (append-nil old.reserved.pairs))
+    staged_more c (node t) old new plans plans2 (node t ∷ []) refl same st p (r ∙ ap (λ k. with_reserved_label k t) (same_needed old.reserved) ∙ needed)
+  where
+    needed : with_reserved_label (with_needed old.reserved []) t ≡ with_needed old.reserved (node t ∷ [])
+    needed i = record { labels = ap (λ ts. ts ++ t ∷ []) (append-nil old.reserved.labels) i; pairs = old.reserved.pairs ++ []; relabels = old.reserved.relabels ++ [] }
 
 pub staged_link : (c : List Step) (u v : ℕ) (old new : ReservedGraph) (plans plans2 : List Plan) → new.graph ≡ old.graph → new.reserved ≡ with_reserved_pair old.reserved u v
     → plans2 ≡ plans ++ Link u v ∷ [] → has_edge (after c old.graph) u v ≡ false → IsStaged c old plans → IsStaged (c ++ link u v ∷ []) new plans2
 staged_link c u v old new plans plans2 same r p absent st =
-    staged_more c (link u v) old new plans plans2 (link u v ∷ []) (ap (λ b. if b then [] else link u v ∷ []) absent) same st (one_plan plans plans2 (Link u v) p)
-    (ap (λ k. k.labels) r ∙ sym (append-nil old.reserved.labels)) (ap (λ k. k.pairs) r)
+    staged_more c (link u v) old new plans plans2 (link u v ∷ []) (ap (λ b. if b then [] else link u v ∷ []) absent) same st p
+    (r ∙ ap (λ k. with_reserved_pair k u v) (same_needed old.reserved) ∙ needed)
+  where
+    needed : with_reserved_pair (with_needed old.reserved []) u v ≡ with_needed old.reserved (link u v ∷ [])
+    needed i = record { labels = old.reserved.labels ++ []; pairs = ap (λ ps. ps ++ (u, v) ∷ []) (append-nil old.reserved.pairs) i; relabels = old.reserved.relabels ++ [] }
 
--- a link of an edge that is there needs nothing
-pub staged_idle : (c : List Step) (u v : ℕ) (old : ReservedGraph) (plans : List Plan) → has_edge (after c old.graph) u v ≡ true → IsStaged c old plans → IsStaged (c ++ link u v ∷ []) old plans
-staged_idle c u v old plans present st =
-    staged_more c (link u v) old old plans plans [] (ap (λ b. if b then [] else link u v ∷ []) present) refl st (sym (append-nil (map Some plans)))
-    (sym (append-nil old.reserved.labels)) (sym (append-nil old.reserved.pairs))
+pub staged_relabel : (c : List Step) (u : ℕ) (t : List ℕ) (old new : ReservedGraph) (plans plans2 : List Plan) → new.graph ≡ old.graph → new.reserved ≡ with_reserved_relabel old.reserved t
+    → plans2 ≡ plans ++ Relabel u t ∷ [] → is_text t (label_of (after c old.graph) u) ≡ false → IsStaged c old plans → IsStaged (c ++ relabel u t ∷ []) new plans2
+staged_relabel c u t old new plans plans2 same r p other st =
+    staged_more c (relabel u t) old new plans plans2 (relabel u t ∷ []) (ap (λ b. if b then [] else relabel u t ∷ []) other) same st p
+    (r ∙ ap (λ k. with_reserved_relabel k t) (same_needed old.reserved) ∙ needed)
+  where
+    needed : with_reserved_relabel (with_needed old.reserved []) t ≡ with_needed old.reserved (relabel u t ∷ [])
+    needed i = record { labels = old.reserved.labels ++ []; pairs = old.reserved.pairs ++ []; relabels = ap (λ ts. ts ++ t ∷ []) (append-nil old.reserved.relabels) i }
+
+-- a step that is idle needs nothing
+pub staged_idle : (c : List Step) (s : Step) (old : ReservedGraph) (plans : List Plan) → is_idle s (after c old.graph) ≡ true → IsStaged c old plans → IsStaged (c ++ s ∷ []) old plans
+staged_idle c s old plans idle st =
+    staged_more c s old old plans plans [] (ap (λ b. if b then [] else s ∷ []) idle) refl st (sym (append-nil plans)) (same_needed old.reserved)
 
 pub staged_unlink : (c : List Step) (u v : ℕ) (old : ReservedGraph) (plans plans2 : List Plan) → plans2 ≡ plans ++ Unlink u v ∷ [] → IsStaged c old plans → IsStaged (c ++ unlink u v ∷ []) old plans2
-staged_unlink c u v old plans plans2 p st =
-    staged_more c (unlink u v) old old plans plans2 (unlink u v ∷ []) refl refl st (one_plan plans plans2 (Unlink u v) p)
-    (sym (append-nil old.reserved.labels)) (sym (append-nil old.reserved.pairs))
+staged_unlink c u v old plans plans2 p st = staged_more c (unlink u v) old old plans plans2 (unlink u v ∷ []) refl refl st p (same_needed old.reserved)
 
 pub staged_drop : (c : List Step) (u : ℕ) (old : ReservedGraph) (plans plans2 : List Plan) → plans2 ≡ plans ++ Drop u ∷ [] → IsStaged c old plans → IsStaged (c ++ drop u ∷ []) old plans2
-staged_drop c u old plans plans2 p st =
-    staged_more c (drop u) old old plans plans2 (drop u ∷ []) refl refl st (one_plan plans plans2 (Drop u) p)
-    (sym (append-nil old.reserved.labels)) (sym (append-nil old.reserved.pairs))
+staged_drop c u old plans plans2 p st = staged_more c (drop u) old old plans plans2 (drop u ∷ []) refl refl st p (same_needed old.reserved)
 
 -- ---- the ends of an edge to come
 

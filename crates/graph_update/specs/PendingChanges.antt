@@ -1,5 +1,5 @@
 -- A graph, and a change that is to be made in it.
-use Rattle.std.specs.Prelude.{◌≡◌, ℕ, zero, suc, ◌<◌, ◌≤◌, ◌^◌, ◌&&◌, not, nat_lt, Bool, false, List, [], ◌∷◌, length, Option, Some, None, refl}
+use Rattle.std.specs.Prelude.{◌≡◌, ℕ, ◌≤◌, ◌^◌, ◌&&◌, not, nat_lt, nat_eq, if◌then◌else◌, Bool, false, List, length, Option, Some, None, refl}
 use Rattle.std.specs.Coded.{Coded, code_by, coded×}
 use Rattle.bisim_spec.specs.declared.sides.Side.{Side}
 use Rattle.bisim_spec.specs.declared.sides.Side.TheVariants.{Parents, Children}
@@ -32,19 +32,13 @@ lost_at Children p n = lost_from p.before (graph_after p) n
 abbrev pub is_added : Graph → Graph → ℕ → Bool
 is_added g g2 n = not (nat_lt n (length g.allocated)) && nat_lt n (length g2.allocated)
 
--- the label of the step that adds a node behind so many others
-abbrev pub nth_label : List Step → ℕ → Option (List ℕ)
-nth_label [] k = None
-nth_label (node t ∷ ss) zero = Some t
-nth_label (node t ∷ ss) (suc k) = nth_label ss k
-nth_label (link u v ∷ ss) k = nth_label ss k
-nth_label (unlink u v ∷ ss) k = nth_label ss k
-nth_label (drop u ∷ ss) k = nth_label ss k
-nth_label (relabel u t ∷ ss) k = nth_label ss k
-
--- the step adds no node, or another stands in front
-abbrev pub IsBehind : Step → ℕ → Type 0
-IsBehind s k = (t : List ℕ) → s ≡ node t → 0 < k
+-- the label that a step gives the node n, where so many numbers are allocated before it
+abbrev pub given_by : Step → ℕ → ℕ → Option (List ℕ)
+given_by (node t) next n = if nat_eq n next then Some t else None
+given_by (link u v) next n = None
+given_by (unlink u v) next n = None
+given_by (drop u) next n = None
+given_by (relabel u t) next n = if nat_eq n u then Some t else None
 
 -- What a pending change keeps: it is new to the graph, these are the texts of the graph's labels, the graph is sound, so many numbers will be
 -- allocated, and where no step may drop a node none does.

@@ -1,20 +1,20 @@
 -- A change that is staged, and what it does once it is made.
-use Rattle.std.specs.Prelude.{◌≡◌, ℕ, ◌-◌, ◌<◌, ◌^◌, true, false, ⊤, List, [], ◌∷◌, length, map, if◌then◌else◌, IsTrue, Option, Some, None}
+use Rattle.std.specs.Prelude.{◌≡◌, ℕ, ◌-◌, ◌<◌, ◌^◌, true, false, ⊤, List, [], ◌∷◌, length, map, if◌then◌else◌, IsTrue}
 use Rattle.std.specs.FinSet as set
 use Rattle.graph_spec.specs.Graphs.{Graph, is_live, has_edge}
 use Rattle.graph_spec.specs.Changes.{with_edge, without_edge}
-use Rattle.change_spec.specs.Steps.{Step, node, link, unlink, drop, relabel, made, is_idle, after, without_node}
-use Rattle.label_graph.specs.ReservedGraphs.{ReservedGraph, AddsReserved, without_reserved_pair, has_pair}
+use Rattle.change_spec.specs.Steps.{Step, node, link, unlink, drop, relabel, made, is_idle, after, without_node, labelled}
+use Rattle.label_graph.specs.ReservedGraphs.{ReservedGraph, FitsLabels, FirstFitsLabels, AddsReserved, without_reserved_pair, without_reserved_relabel, has_pair, has_text}
 use Rattle.graph_update.specs.declared.staging.Applied.{Applied}
 use Rattle.graph_update.specs.declared.staging.Plan.{Plan}
-use Rattle.graph_update.specs.declared.staging.Plan.TheVariants.{Node, Link, Unlink, Drop}
+use Rattle.graph_update.specs.declared.staging.Plan.TheVariants.{Node, Link, Unlink, Drop, Relabel}
 
 -- the steps that aren't idle at their place
 abbrev pub effective : List Step → Graph → List Step
 effective [] g = []
 effective (s ∷ ss) g = if is_idle s g then effective ss (made s g) else s ∷ effective ss (made s g)
 
--- the labels and the edges that steps need, in their order
+-- the labels for new nodes that steps need, the edges, and the labels for nodes that there are, in their order
 abbrev pub needed_labels : List Step → List (List ℕ)
 needed_labels [] = []
 needed_labels (node t ∷ ss) = t ∷ needed_labels ss
@@ -31,27 +31,36 @@ needed_pairs (unlink u v ∷ ss) = needed_pairs ss
 needed_pairs (drop u ∷ ss) = needed_pairs ss
 needed_pairs (relabel u t ∷ ss) = needed_pairs ss
 
--- How a step is planned; a new node's label is the next one that the graph has reserved. There is no plan to give a node another label.
-abbrev pub plan_of : Step → Option Plan
-plan_of (node t) = Some Node
-plan_of (link u v) = Some (Link u v)
-plan_of (unlink u v) = Some (Unlink u v)
-plan_of (drop u) = Some (Drop u)
-plan_of (relabel u t) = None
+abbrev pub needed_relabels : List Step → List (List ℕ)
+needed_relabels [] = []
+needed_relabels (node t ∷ ss) = needed_relabels ss
+needed_relabels (link u v ∷ ss) = needed_relabels ss
+needed_relabels (unlink u v ∷ ss) = needed_relabels ss
+needed_relabels (drop u ∷ ss) = needed_relabels ss
+needed_relabels (relabel u t ∷ ss) = t ∷ needed_relabels ss
+
+-- how a step is planned; a new node's label is the next one that the graph has reserved
+abbrev pub plan_of : Step → Plan
+plan_of (node t) = Node
+plan_of (link u v) = Link u v
+plan_of (unlink u v) = Unlink u v
+plan_of (drop u) = Drop u
+plan_of (relabel u t) = Relabel u t
 
 -- the change is staged in the graph
 pub record IsStaged (c : List Step) (held : ReservedGraph) (plans : List Plan) : Type 0 where
-  pub plans_are : map Some plans ≡ map plan_of (effective c held.graph)
+  pub plans_are : plans ≡ map plan_of (effective c held.graph)
   pub labels : held.reserved.labels ≡ needed_labels (effective c held.graph)
   pub pairs : held.reserved.pairs ≡ needed_pairs (effective c held.graph)
+  pub relabels : held.reserved.relabels ≡ needed_relabels (effective c held.graph)
 
 -- the step can be made within some limits, and isn't idle
 abbrev pub HasEffect : Step → Graph → Type 0
-HasEffect (node t) g = length g.allocated < 2 ^ 30
+HasEffect (node t) g = (length g.allocated < 2 ^ 30) × FitsLabels g t
 HasEffect (link u v) g = IsTrue (is_live g u) × IsTrue (is_live g v) × (has_edge g u v ≡ false) × (set.len g.edges < 2 ^ 30)
 HasEffect (unlink u v) g = has_edge g u v ≡ true
 HasEffect (drop u) g = IsTrue (is_live g u)
-HasEffect (relabel u t) g = IsTrue (is_live g u)
+HasEffect (relabel u t) g = IsTrue (is_live g u) × FitsLabels g t
 
 -- so for each of the steps, at its place
 abbrev pub HaveEffect : List Step → Graph → Type 0
@@ -60,17 +69,19 @@ HaveEffect (s ∷ ss) g = HasEffect s g × HaveEffect ss (made s g)
 
 -- these are the plans of the steps, what they need is reserved, and no more, and none of them is idle
 pub record ArePlanned (steps : List Step) (held : ReservedGraph) (plans : List Plan) : Type 0 where
-  pub plans_are : map Some plans ≡ map plan_of steps
+  pub plans_are : plans ≡ map plan_of steps
   pub labels : held.reserved.labels ≡ needed_labels steps
   pub pairs : held.reserved.pairs ≡ needed_pairs steps
+  pub relabels : held.reserved.relabels ≡ needed_relabels steps
   pub effect : HaveEffect steps held.graph
 
 -- what is planned can be made with what is reserved
 abbrev pub CanBeMade : Plan → ReservedGraph → Type 0
-CanBeMade Node held = (0 < length held.reserved.labels) × (length held.graph.allocated < 2 ^ 30)
+CanBeMade Node held = (0 < length held.reserved.labels) × (length held.graph.allocated < 2 ^ 30) × FirstFitsLabels held
 CanBeMade (Link u v) held = IsTrue (has_pair held.reserved.pairs u v) × HasEffect (link u v) held.graph
 CanBeMade (Unlink u v) held = has_edge held.graph u v ≡ true
 CanBeMade (Drop u) held = IsTrue (is_live held.graph u)
+CanBeMade (Relabel u t) held = IsTrue (has_text held.reserved.relabels t) × HasEffect (relabel u t) held.graph
 
 -- what is made of it
 abbrev pub IsMadeBy : Plan → ReservedGraph → ReservedGraph → Type 0
@@ -78,6 +89,7 @@ IsMadeBy Node old new = AddsReserved old new
 IsMadeBy (Link u v) old new = new ≡ record { graph = with_edge old.graph u v; reserved = without_reserved_pair old.reserved u v }
 IsMadeBy (Unlink u v) old new = new ≡ record { graph = without_edge old.graph u v; reserved = old.reserved }
 IsMadeBy (Drop u) old new = new ≡ record { graph = without_node old.graph u; reserved = old.reserved }
+IsMadeBy (Relabel u t) old new = new ≡ record { graph = labelled old.graph u t; reserved = without_reserved_relabel old.reserved t }
 
 -- edges at the node are gone, and all else is as it was
 pub record LosesEdgesAt (u : ℕ) (old new : ReservedGraph) : Type 0 where

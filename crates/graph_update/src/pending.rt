@@ -1,17 +1,19 @@
 // A graph as a change will leave it.
-ghost use Rattle.std.specs.Prelude.{◌≡◌, ◌<◌, ◌≤◌, ◌+◌, ◌-◌, ◌^◌, ◌||◌, ◌&&◌, not, ℕ, true, false, length, IsTrue, IfSome, IfNone, List, ◌∷◌, Some, None, slice_get, position, bytes_eq, if◌then◌else◌};
+ghost use Rattle.std.specs.Prelude.{◌≡◌, ◌<◌, ◌≤◌, ◌+◌, ◌-◌, ◌^◌, ◌||◌, ◌&&◌, not, ℕ, true, false, length, IsTrue, IfSome, IfNone, List, ◌∷◌, Some, None, slice_get, position, bytes_eq, if◌then◌else◌, option_map};
+ghost use Rattle.std.specs.Option.{option_or};
 ghost use Rattle.std.specs.FinSet as set;
 ghost use Rattle.graph_spec.specs.Graphs.{Graph as Seen, IsGraph, is_live, label_of, has_edge, is_seen};
+ghost use Rattle.graph_spec.specs.Changes.{with_label};
 ghost use Rattle.graph_spec.specs.Members.{Lists};
 ghost use Rattle.label_graph.specs.GraphViews.{label_number, edge_count};
 ghost use Rattle.change_spec.specs.Lost.{lost_onto, lost_from};
-ghost use Rattle.change_spec.specs.Steps.{Step as StepOf, node, made, after};
+ghost use Rattle.change_spec.specs.Steps.{made, after};
 ghost use Rattle.change_spec.specs.Places.{CanMake, CanMakeAll};
-ghost use Rattle.change_spec.specs.Named.{takes_away, is_dropped};
+ghost use Rattle.change_spec.specs.Named.{takes_away, is_named, is_dropped};
 ghost use Rattle.graph_steps.specs.StepLists.{step_of, steps_of};
 ghost use Rattle.graph_steps.specs.NewChanges.{IsNew};
 ghost use Rattle.graph_update.specs.ShownNeighbours.{joins};
-ghost use Rattle.graph_update.specs.PendingChanges.{graph_after, lost_at, is_added, nth_label, IsBehind};
+ghost use Rattle.graph_update.specs.PendingChanges.{graph_after, lost_at, is_added, given_by};
 
 use crate::neighbours::{Neighbours, fresh_count};
 use bisim_spec::Side;
@@ -79,21 +81,32 @@ impl<'a> After<'a> {
     }
 
     /// The number of a live node's label. Labels that are not seen yet have the next numbers, in the order of the steps
-    /// that bring them. O(1), but for a node that one of s steps adds, whose label has b bytes, expected O(s + b), and
-    /// where its label isn't seen yet s look-ups of labels and at most s^2 / 2 comparisons of them; no memory.
+    /// that bring them. O(1), but O(s) for a node that one of s steps adds or names; where a step gives it a label of b
+    /// bytes, expected O(s + b), and where that isn't seen yet s look-ups of labels and at most s^2 / 2 comparisons of
+    /// them; no memory.
     pub fn label(&self, n: NodeId) -> u32
         requires live { IsTrue (is_live (graph_after self.now) n) }
         ensures text { slice_get (graph_after self.now).seen result ≡ label_of (graph_after self.now) n }
         ensures number { label_number (graph_after self.now) n ≡ Some result }
     {
-        let steps = self.change.steps();
-        if n < self.graph.created() {
-            return self.graph.label(n);
-        }
         // Called for its contract: numbers of labels fit.
         let _known = self.labels.len();
-        let label = nth_label(steps, n - self.graph.created()).unwrap();
-        added_number(self.graph, steps, label)
+        match self.given_label(n) {
+            Some(label) => added_number(self.graph, self.change.steps(), label),
+            None => self.graph.label(n),
+        }
+    }
+
+    // The label that a step gives the node, the last one where several do. Steps are looked through only where one may
+    // add the node or name it.
+    fn given_label(&self, n: NodeId) -> Option<&Text>
+        requires live { IsTrue (is_live (graph_after self.now) n) }
+        ensures { label_of (graph_after self.now) n ≡ option_or (option_map (λ t. t.now) result) (label_of self.now.before n) }
+    {
+        if n < self.graph.created() && !self.change.may_name(n) {
+            return None;
+        }
+        given_label(self.graph, self.change.steps(), n)
     }
 
     /// How many node numbers will have been allocated: at most 2^30. O(1), no memory.
@@ -285,52 +298,48 @@ fn one_if(b: bool) -> u32
     if b { 1 } else { 0 }
 }
 
-// The label of the step, where that adds a node and none other stands in front.
-fn label_here(step: &Step, nodes_before: u32) -> Option<&Text>
-    ensures some { IfSome result (λ t. (c : List StepOf) → nth_label (step_of step.now ∷ c) nodes_before ≡ Some t.now) }
-    ensures none { IfNone result (IsBehind (step_of step.now) nodes_before) }
+// The label, where it is asked for.
+fn label_if(wanted: bool, label: &Text) -> Option<&Text>
+    ensures { option_map (λ t. t.now) result ≡ (if wanted then Some label.now else None) }
+{
+    if wanted { Some(label) } else { None }
+}
+
+// The label that the step gives a node, where so many numbers are allocated before it.
+fn label_by(step: &Step, next: u32, n: NodeId) -> Option<&Text>
+    ensures { option_map (λ t. t.now) result ≡ given_by (step_of step.now) next n }
 {
     match step {
-        Step::Node(label) if nodes_before == 0 => Some(label),
+        Step::Node(label) => label_if(n == next, label),
+        Step::Relabel(node, label) => label_if(n == *node, label),
         _ => None,
     }
 }
 
-// So many others stand in front, behind the step.
-fn nodes_left(step: &Step, nodes_before: u32) -> u32
-    requires { IsBehind (step_of step.now) nodes_before }
-    ensures { (c : List StepOf) → nth_label (step_of step.now ∷ c) nodes_before ≡ nth_label c result }
+// The label that steps give a node which is live behind them, the last one where several do.
+fn given_label<'a>(graph: &Graph, steps: &'a [Step], n: NodeId) -> Option<&'a Text>
+    requires few { length steps.now ≤ 1024 }
+    requires can { CanMakeAll (steps_of steps.now) graph.now.graph }
+    requires live { IsTrue (is_live (after (steps_of steps.now) graph.now.graph) n) }
+    ensures { label_of (after (steps_of steps.now) graph.now.graph) n ≡ option_or (option_map (λ t. t.now) result) (label_of graph.now.graph n) }
 {
-    match step {
-        Step::Node(_) => nodes_before - 1,
-        _ => nodes_before,
+    let mut given = None;
+    let mut next = graph.created();
+    for i in 0..steps.len() {
+        given = label_by(&steps[i], next, n).or(given);
+        next = created_by(next, &steps[i]);
     }
+    given
 }
 
-// The label of the step that adds a node, of which so many others stand in front.
-fn nth_label(steps: &[Step], nodes_before: u32) -> Option<&Text>
-    ensures some { IfSome result (λ t. nth_label (steps_of steps.now) nodes_before ≡ Some t.now) }
-    ensures none { IfNone result (nth_label (steps_of steps.now) nodes_before ≡ None) }
-{
-    let mut left = steps;
-    let mut before = nodes_before;
-    while let Some((step, rest)) = left.split_first() {
-        if let Some(label) = label_here(step, before) {
-            return Some(label);
-        }
-        before = nodes_left(step, before);
-        left = rest;
-    }
-    None
-}
-
-// Whether the step adds a node with the label.
+// Whether the step brings the label, where it isn't seen yet.
 fn brings(step: &Step, label: &Text) -> bool
-    ensures some { result ≡ true → step_of step.now ≡ node label.now }
+    ensures some { result ≡ true → (h : Seen) → (made (step_of step.now) h).seen ≡ with_label h.seen label.now }
     ensures none { result ≡ false → (h : Seen) → is_seen (made (step_of step.now) h).seen label.now ≡ is_seen h.seen label.now }
 {
     match step {
         Step::Node(text) => *label == *text,
+        Step::Relabel(_, text) => *label == *text,
         _ => false,
     }
 }
@@ -343,6 +352,7 @@ fn labels_by(graph: &Graph, front: &[Step], step: &Step, labels: u32) -> u32
 {
     match step {
         Step::Node(text) => labels + one_if(!is_seen(graph, front, text)),
+        Step::Relabel(_, text) => labels + one_if(!is_seen(graph, front, text)),
         _ => labels,
     }
 }

@@ -1,14 +1,14 @@
 // Making a change in two calls.
-ghost use Rattle.std.specs.Prelude.{◌≡◌, ◌<◌, ◌++◌, ◌∷◌, [], false, OnErr, OnOk, IfOk, IsTrue, List, ℕ};
+ghost use Rattle.std.specs.Prelude.{◌≡◌, ◌<◌, ◌≤◌, ◌++◌, ◌∷◌, [], false, length, OnErr, OnOk, IfOk, IsTrue, List, ℕ};
 ghost use Rattle.graph_spec.specs.Graphs.{is_live, has_edge as edge_in};
-ghost use Rattle.change_spec.specs.Steps.{Step as Value_of_step, node, link, unlink, drop, after, without_node};
+ghost use Rattle.change_spec.specs.Steps.{Step as Value_of_step, node, link, unlink, drop, relabel, after, without_node};
 ghost use Rattle.change_spec.specs.Places.{CanMake, CanMakeAll};
 ghost use Rattle.label_graph.specs.ReservedGraphs.{none_reserved};
 ghost use Rattle.graph_steps.specs.NewChanges.{IsNew};
 ghost use Rattle.graph_steps.specs.StepLists.{step_of, steps_of};
 ghost use Rattle.graph_update.specs.StagedChanges.{IsStaged, ArePlanned, CanBeMade, IsMadeBy, LosesEdgesAt, applied_of};
 
-use graph_steps::{Change, Step, has_edge};
+use graph_steps::{Change, Step, has_edge, has_label};
 use label_graph::Graph;
 use px_base::{Memory, NodeId, Steps, Text};
 use smallvec::SmallVec;
@@ -16,13 +16,14 @@ use std::alloc::Global;
 use std::marker::{Brand, Model};
 use std::sync::ledger::{Blank, Ledger};
 
-// How a staged step is made: numbers alone.
-#[derive(Clone, Copy, Drop)]
+// How a staged step is made.
+#[derive(Drop)]
 enum Plan {
     Node,
     Link(NodeId, NodeId),
     Unlink(NodeId, NodeId),
     Drop(NodeId),
+    Relabel(NodeId, Text),
 }
 
 impl Default for Plan {
@@ -49,7 +50,7 @@ pub struct Applied {
 ///     let applied = commit(&mut graph, staged);
 #[derive(Drop)]
 pub struct Staged {
-    // Links of edges that are there already are left out.
+    // Links of edges that are there already are left out, and so are labels that nodes have.
     plans: SmallVec<Plan, 1>,
 }
 
@@ -65,8 +66,8 @@ impl Model for Staged {
 /// Takes all the memory that a change needs, which `judge` accepts as new within some limits. The graph stays as it is
 /// seen. What was reserved before is reserved no more, and if memory runs out nothing is reserved. Expected O(s^2 + b),
 /// amortized, for s steps with labels of b bytes together, and what it takes to look up an edge of the graph for each
-/// link; it takes the memory that `Graph` takes for nodes and edges, and where there are more steps than one that of
-/// a list of them.
+/// link; it takes the memory that `Graph` takes for nodes, edges and labels, that of a copy of each label that a node
+/// gets instead of its own, and where there are more steps than one that of a list of them.
 #[tactic(auto, using(crate::proofs::PlannedSteps::new_can))]
 pub fn stage(alloc: Global, graph: &mut Graph, change: &Change) -> Result<Staged, Memory>
     requires new { IsNew change.now graph.old.graph }
@@ -92,6 +93,7 @@ fn stage_steps(
     steps: &[Step],
     plans: &mut SmallVec<Plan, 1>,
 ) -> Result<(), Memory>
+    requires few { length steps.now ≤ 1024 }
     requires can { CanMakeAll (steps_of steps.now) graph.old.graph }
     requires none { graph.old.reserved ≡ none_reserved }
     requires empty { plans.old.items ≡ [] }
@@ -112,6 +114,7 @@ fn stage_step(
     step: &Step,
     plans: &mut SmallVec<Plan, 1>,
 ) -> Result<(), Memory>
+    requires few { length front.now ≤ 1024 }
     requires front { CanMakeAll (steps_of front.now) graph.old.graph }
     requires can { CanMake (step_of step.now) (after (steps_of front.now) graph.old.graph) }
     requires staged { IsStaged (steps_of front.now) graph.old plans.old.items }
@@ -123,6 +126,7 @@ fn stage_step(
         Step::Link(from, to) => stage_link(graph, front, *from, *to, plans),
         Step::Unlink(from, to) => stage_unlink(graph, *from, *to, plans),
         Step::Drop(node) => stage_drop(graph, *node, plans),
+        Step::Relabel(node, label) => stage_relabel(alloc, graph, front, *node, label, plans),
     }
 }
 
@@ -183,6 +187,29 @@ fn stage_drop(graph: &Graph, node: NodeId, plans: &mut SmallVec<Plan, 1>) -> Res
     Ok(())
 }
 
+fn stage_relabel(
+    alloc: Global,
+    graph: &mut Graph,
+    front: &[Step],
+    node: NodeId,
+    label: &Text,
+    plans: &mut SmallVec<Plan, 1>,
+) -> Result<(), Memory>
+    requires few { length front.now ≤ 1024 }
+    requires front { CanMakeAll (steps_of front.now) graph.old.graph }
+    requires staged { IsStaged (steps_of front.now) graph.old plans.old.items }
+    ensures graph { graph.new.graph ≡ graph.old.graph }
+    ensures staged { OnOk result (IsStaged (steps_of front.now ++ relabel node label.now ∷ []) graph.new plans.new.items) }
+{
+    if has_label(graph, front, node, label) {
+        return Ok(());
+    }
+    let copy = label.copy(alloc)?;
+    graph.reserve_label(alloc, label)?;
+    plans.push(Plan::Relabel(node, copy))?;
+    Ok(())
+}
+
 /// Makes a change that is staged in the graph, which is as `stage` left it, and leaves nothing reserved. It can't fail,
 /// and takes no memory. O(s^2) for s steps, and what `Graph::remove_edge` takes for each edge that goes, those of dropped
 /// nodes too.
@@ -208,22 +235,23 @@ fn make_all(graph: &mut Graph, plans: &[Plan])
 {
     let mut left = plans;
     'plans: while let Some((plan, rest)) = left.split_first() {
-        make(graph, *plan);
+        make(graph, plan);
         left = rest;
     }
 }
 
-fn make(graph: &mut Graph, plan: Plan)
-    requires can { CanBeMade plan graph.old }
-    ensures made { IsMadeBy plan graph.old graph.new }
+fn make(graph: &mut Graph, plan: &Plan)
+    requires can { CanBeMade plan.now graph.old }
+    ensures made { IsMadeBy plan.now graph.old graph.new }
 {
     match plan {
         Plan::Node => {
             graph.add_node();
         }
-        Plan::Link(from, to) => graph.add_edge(from, to),
-        Plan::Unlink(from, to) => graph.remove_edge(from, to),
-        Plan::Drop(node) => drop_node::<Brand>(graph, node, Blank::new(1)),
+        Plan::Link(from, to) => graph.add_edge(*from, *to),
+        Plan::Unlink(from, to) => graph.remove_edge(*from, *to),
+        Plan::Drop(node) => drop_node::<Brand>(graph, *node, Blank::new(1)),
+        Plan::Relabel(node, label) => graph.set_label(*node, label),
     }
 }
 

@@ -2,7 +2,7 @@
 use super::*;
 use graph_steps::has_edge;
 use label_graph::Graph;
-use px_base::{Limits, Text};
+use px_base::{Limits, NodeId, Text};
 use std::alloc::Global;
 use std::process::Abort;
 use std::test::Fail;
@@ -10,7 +10,7 @@ use std::test::Fail;
 const FEW: Limits = Limits {
     nodes: 8,
     edges: 4,
-    labels: 3,
+    labels: 4,
     expr_bytes: 1,
     expr_depth: 1,
 };
@@ -71,6 +71,48 @@ fn make_groups(rt: &impl Abort, alloc: Global, graph: &mut Graph) -> Result<(), 
 fn groups(rt: HostRuntime) -> Result<(), Fail> {
     let mut graph = Graph::new(rt.alloc())?;
     make_groups(&rt, rt.alloc(), &mut graph)
+}
+
+fn label(alloc: Global, node: NodeId, text: &[u8]) -> Result<Step, Fail> {
+    Ok(Step::Relabel(node, Text::from_bytes(alloc, text)?))
+}
+
+// Node 0 gets a label, and another, which a new node brings. That node gets another too.
+fn with_labels(alloc: Global) -> Result<Change, Fail> {
+    let mut change = Change::one(alloc, label(alloc, 0, b"b")?)?;
+    change.push(node(alloc, b"c")?)?;
+    change.push(label(alloc, 1, b"d")?)?;
+    change.push(label(alloc, 0, b"c")?)?;
+    change.push(label(alloc, 0, b"c")?)?;
+    Ok(change)
+}
+
+// The numbers of the labels that nodes 0 and 1 will have.
+fn shown_labels(rt: &impl Abort, graph: &Graph, change: &Change) -> Result<(u32, u32), Fail> {
+    let Ok(Verdict::New) = judge(graph, change, &FEW) else {
+        return Err("not new".into());
+    };
+    let after = After::new(graph, change);
+    assert!(rt; after.is_live(0) && after.is_live(1));
+    Ok((after.label(0), after.label(1)))
+}
+
+// Labels have the numbers of their order in the change, before it is made and after.
+fn check_labels(rt: &impl Abort, alloc: Global, graph: &mut Graph) -> Result<(), Fail> {
+    make(alloc, graph, &Change::one(alloc, node(alloc, b"a")?)?)?;
+    let change = with_labels(alloc)?;
+    assert!(rt; shown_labels(rt, graph, &change)? == (2, 3));
+    assert!(rt; make(alloc, graph, &change)? == Applied { first: 1, added: 1 });
+    assert!(rt; graph.is_live(0) && graph.is_live(1));
+    assert!(rt; graph.label(0) == 2 && graph.label(1) == 3 && graph.labels().len() == 4);
+    assert!(rt; graph.labels().find(&Text::from_bytes(alloc, b"b")?) == Some(1));
+    Ok(())
+}
+
+#[test]
+fn other_labels(rt: HostRuntime) -> Result<(), Fail> {
+    let mut graph = Graph::new(rt.alloc())?;
+    check_labels(&rt, rt.alloc(), &mut graph)
 }
 
 // The labels of a change that is dropped don't come back.

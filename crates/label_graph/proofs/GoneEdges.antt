@@ -95,13 +95,14 @@ module _ (shown : ℕ) (old new : List Node) (u v : ℕ) (l : LacksEdge shown ol
   kept w k h = subst (λ ls. IsSome (number_at ls w)) l.labels (k h)
 
   module _ (table : LabelTable) where
-    pub sound-less : (edges count : ℕ) (numbers : List ℕ) (pairs : List (ℕ × ℕ)) → IsSoundGraph table shown old edges count numbers pairs → has (children_of old u) v ≡ true → KeepsReserved old new
-        → IsSoundGraph table shown new (edges - 1) count numbers pairs
-    sound-less edges count numbers pairs o there r = record {
+    pub sound-less : (edges count : ℕ) (numbers : List ℕ) (pairs : List (ℕ × ℕ)) (relabels : List ℕ) → IsSoundGraph table shown old edges count numbers pairs relabels → has (children_of old u) v ≡ true → KeepsReserved old new
+        → IsSoundGraph table shown new (edges - 1) count numbers pairs relabels
+    sound-less edges count numbers pairs relabels o there r = record {
       lists = lists-taken edges o.lists there;
       labels = subst (λ ls. HaveLabelNumbers table ls count) (sym l.labels) o.labels;
       reserved = record {
-        next = o.reserved.next;
+        labels = o.reserved.labels;
+        relabels = o.reserved.relabels;
         rows = omega (arith, o.reserved.rows, r.size);
         children = λ w k. omega (arith, o.reserved.children w (kept w k), r.child w);
         parents = λ w k. omega (arith, o.reserved.parents w (kept w k), r.parent w);

@@ -61,7 +61,6 @@ module _ (table : LabelTable) (numbers : List (Option ℕ)) (count u : ℕ) (a :
       let none : Option ℕ = None in
       record {
         few_nodes = omega (arith, a.few_nodes, length-set numbers u none);
-        few_labels = omega (arith, a.few_labels, length-set numbers u none);
         once = a.once;
         below = λ n l e. a.below n l (number-left numbers u n l e);
         node_count_is = omega (arith, a.node_count_is, count-less (texts_of table.texts numbers) u live, ap (count_by is_some) texts-less);
@@ -81,8 +80,8 @@ module _ (table : LabelTable) (shown : ℕ) (old new : List Node) (u : ℕ) (liv
   kept w k h = live-before w (number_at (labels_of shown new) w) refl (k h)
 
   module _ (bare : IsBare (graph_by table shown old) u) (r : KeepsReserved old new) where
-    pub sound-gone : (edges count : ℕ) (numbers : List ℕ) (pairs : List (ℕ × ℕ)) → IsSoundGraph table shown old edges count numbers pairs → IsSoundGraph table shown new edges (count - 1) numbers pairs
-    sound-gone edges count numbers pairs o = record {
+    pub sound-gone : (edges count : ℕ) (numbers : List ℕ) (pairs : List (ℕ × ℕ)) (relabels : List ℕ) → IsSoundGraph table shown old edges count numbers pairs relabels → IsSoundGraph table shown new edges (count - 1) numbers pairs relabels
+    sound-gone edges count numbers pairs relabels o = record {
       lists = lists-as shown shown old new edges children parents (λ a b h.
           let e = o.lists.ends a b h in
           let there = has_edge-children old a b ∙ h in
@@ -92,7 +91,8 @@ module _ (table : LabelTable) (shown : ℕ) (old new : List Node) (u : ℕ) (liv
           }) o.lists;
       labels = subst (λ ls. HaveLabelNumbers table ls (count - 1)) (sym labels) (labels-less table (labels_of shown old) count u o.labels live);
       reserved = record {
-        next = o.reserved.next;
+        labels = o.reserved.labels;
+        relabels = o.reserved.relabels;
         rows = omega (arith, o.reserved.rows, r.size);
         children = λ w k. omega (arith, o.reserved.children w (kept w k), r.child w);
         parents = λ w k. omega (arith, o.reserved.parents w (kept w k), r.parent w);

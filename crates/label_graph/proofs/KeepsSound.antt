@@ -1,6 +1,6 @@
 -- What keeps the lists of nodes sound.
-use Rattle.std.proofs.Common.{◌≡◌, ℕ, ◌+◌, ◌<◌, ◌≤◌, ◌^◌, Bool, true, false, cond, List, [], ◌∷◌, ◌++◌, length, Option, refl, sym, ap, ◌∙◌, subst, arith, nat_eq, IsTrue, append-nil, append_assoc, length-append, rules, true≢false, ◌⊎◌, inl, inr}
-use Rattle.std.specs.Prelude.{IsSome, bytes_eq, ◌&&◌, ◌||◌, if◌then◌else◌}
+use Rattle.std.proofs.Common.{◌≡◌, ℕ, ◌+◌, ◌<◌, ◌≤◌, ◌^◌, Bool, true, false, cond, List, [], ◌∷◌, ◌++◌, length, Option, Some, refl, sym, ap, ◌∙◌, subst, arith, nat_eq, IsTrue, append-nil, append_assoc, length-append, rules, true≢false, ◌⊎◌, inl, inr}
+use Rattle.std.specs.Prelude.{IsSome, slice_get, bytes_eq, ◌&&◌, ◌||◌, if◌then◌else◌}
 use Rattle.std.specs.List.{IsDistinct}
 use Rattle.std.specs.Cmp.{IsEquivalence}
 use Rattle.std.specs.Cmp.Rules.{comparing}
@@ -13,12 +13,12 @@ use Rattle.graph_spec.specs.Members.{has}
 use Rattle.graph_spec.proofs.EdgeOrder.{edge_cmp_total, edge_cmp-IsAntisymmetric}
 use Rattle.label_graph.specs.Nodes.{Node, NodeTable, labels_of, number_at, children_of, parents_of, child_reserved, parent_reserved, edges_of, SameNodes, HasReserved, IsLive, IsKept}
 use Rattle.label_graph.specs.ReservedGraphs.{starting, ending}
-use Rattle.label_graph.specs.LabelTable.{LabelTable, entries, with_ahead, IsPlaced}
-use Rattle.label_graph.specs.Soundness.{IsSoundGraph, AreSound, HaveLabelNumbers, EndsLive, ReservedFits, AreNext}
+use Rattle.label_graph.specs.LabelTable.{LabelTable, entries, with_ahead}
+use Rattle.label_graph.specs.Soundness.{IsSoundGraph, AreSound, HaveLabelNumbers, EndsLive, ReservedFits}
 use Rattle.label_graph.proofs.EdgeLists.{has_edge-children, edges-pushed, mirrors-pushed, one}
 use Rattle.label_graph.proofs.SoundNodes.{texts-once}
 use Rattle.label_graph.proofs.Tables.{distinct-more}
-use Rattle.label_graph.proofs.ReservedLabels.{next-entry, next-new}
+use Rattle.label_graph.proofs.ReservedLabels.{entries-new, entries-kept}
 use Rattle.label_graph.proofs.ReservedPairs.{starting-more, ending-more}
 
 pub edges-same : (old new : List Node) → ((w : ℕ) → children_of new w ≡ children_of old w) → edges_of new ≡ edges_of old
@@ -47,10 +47,21 @@ lists-kept before shown old new edges c p live s =
 kept-same : (shown : ℕ) (old new : List Node) → labels_of shown new ≡ labels_of shown old → (w : ℕ) → IsKept shown new w → IsKept shown old w
 kept-same shown old new e w k h = subst (λ ls. IsSome (number_at ls w)) e (k h)
 
+pub same-nodes : (shown : ℕ) (nodes : List Node) → SameNodes shown nodes nodes
+same-nodes shown nodes = record {
+  size = omega arith;
+  labels = refl;
+  children = λ w. refl;
+  parents = λ w. refl;
+  child_reserves = λ w k. omega arith;
+  parent_reserves = λ w k. omega arith;
+}
+
 -- nothing is reserved
-pub fits-cleared : (table : LabelTable) (shown : ℕ) (nodes : List Node) → shown ≤ length nodes → ReservedFits (record { texts = table.texts; ahead = [] }) shown nodes [] []
+pub fits-cleared : (table : LabelTable) (shown : ℕ) (nodes : List Node) → shown ≤ length nodes → ReservedFits (record { texts = table.texts; ahead = [] }) shown nodes [] [] []
 fits-cleared table shown nodes h = record {
-  next = ap length (sym (append-nil table.texts));
+  labels = tt;
+  relabels = tt;
   rows = omega (arith, h);
   children = λ w k. omega arith;
   parents = λ w k. omega arith;
@@ -60,14 +71,13 @@ fits-cleared table shown nodes h = record {
 pub labels-cleared : (table : LabelTable) (numbers : List (Option ℕ)) (count : ℕ) → HaveLabelNumbers table numbers count → HaveLabelNumbers (record { texts = table.texts; ahead = [] }) numbers count
 labels-cleared table numbers count a = record {
   few_nodes = a.few_nodes;
-  few_labels = a.few_labels;
   once = subst (IsDistinct bytes_eq) (sym (append-nil table.texts)) (texts-once table a.once);
   below = a.below;
   node_count_is = a.node_count_is;
 }
 
-module _ (table : LabelTable) (shown : ℕ) (nodes : List Node) (edges count : ℕ) (numbers : List ℕ) (pairs : List (ℕ × ℕ)) (o : IsSoundGraph table shown nodes edges count numbers pairs) where
-  pub sound-cleared : IsSoundGraph (record { texts = table.texts; ahead = [] }) shown nodes edges count [] []
+module _ (table : LabelTable) (shown : ℕ) (nodes : List Node) (edges count : ℕ) (numbers : List ℕ) (pairs : List (ℕ × ℕ)) (relabels : List ℕ) (o : IsSoundGraph table shown nodes edges count numbers pairs relabels) where
+  pub sound-cleared : IsSoundGraph (record { texts = table.texts; ahead = [] }) shown nodes edges count [] [] []
   sound-cleared = record {
     lists = o.lists;
     labels = labels-cleared table (labels_of shown nodes) count o.labels;
@@ -88,11 +98,11 @@ module _ (table : LabelTable) (shown : ℕ) (nodes : List Node) (edges count : �
     parents-same : (w : ℕ) → IsKept shown new w → ending w pairs ≤ parent_reserved new w
     parents-same w k = let h = kept-same shown nodes new s.labels w k in omega (arith, o.reserved.parents w h, s.parent_reserves w h)
 
-    pub sound-same : IsSoundGraph table shown new edges count numbers pairs
+    pub sound-same : IsSoundGraph table shown new edges count numbers pairs relabels
     sound-same = record {
       lists = lists-same;
       labels = labels-same;
-      reserved = record { next = o.reserved.next; rows = omega (arith, o.reserved.rows, s.size); children = children-same; parents = parents-same };
+      reserved = record { labels = o.reserved.labels; relabels = o.reserved.relabels; rows = omega (arith, o.reserved.rows, s.size); children = children-same; parents = parents-same };
     }
 
     -- one more edge is reserved
@@ -111,40 +121,50 @@ module _ (table : LabelTable) (shown : ℕ) (nodes : List Node) (edges count : �
             | false ↦ λ q. omega (arith, parents-same w k)
           ] refl)
 
-      pub sound-pair : IsSoundGraph table shown new edges count numbers (pairs ++ (u, v) ∷ [])
+      pub sound-pair : IsSoundGraph table shown new edges count numbers (pairs ++ (u, v) ∷ []) relabels
       sound-pair = record {
         lists = lists-same;
         labels = labels-same;
-        reserved = record { next = o.reserved.next; rows = omega (arith, o.reserved.rows, s.size); children = children-more; parents = parents-more };
+        reserved = record { labels = o.reserved.labels; relabels = o.reserved.relabels; rows = omega (arith, o.reserved.rows, s.size); children = children-more; parents = parents-more };
       }
 
     -- one more label is reserved
-    module _ (t : List ℕ) (l : ℕ) (spare : shown + length numbers < length new) where
+    module _ (t : List ℕ) (l : ℕ) (e : slice_get (entries (with_ahead table t)) l ≡ Some t) where
       ahead-once : (b : Bool) → is_seen (entries table) t ≡ b → IsDistinct bytes_eq (entries (record { texts = table.texts; ahead = if b then table.ahead else table.ahead ++ t ∷ [] }))
       ahead-once true e = o.labels.once
       ahead-once false e = subst (IsDistinct bytes_eq) (append_assoc table.texts table.ahead (t ∷ [])) (distinct-more (entries table) t o.labels.once e)
 
-      next-ahead : (b : Bool) → IsPlaced b (length (entries table)) l
-          → AreNext (length table.texts) (length (table.texts ++ (if b then table.ahead else table.ahead ++ t ∷ []))) (numbers ++ l ∷ [])
-      next-ahead true p = next-entry (length table.texts) (length (entries table)) l numbers o.reserved.next p
-      next-ahead false p =
-          subst (λ n. AreNext (length table.texts) n (numbers ++ l ∷ []))
-          (omega (arith, length-append table.texts table.ahead, length-append table.ahead (t ∷ []), length-append table.texts (table.ahead ++ t ∷ [])))
-          (next-new (length table.texts) (length (entries table)) l numbers o.reserved.next p)
+      labels-ahead : HaveLabelNumbers (with_ahead table t) (labels_of shown new) count
+      labels-ahead = record {
+        few_nodes = labels-same.few_nodes;
+        once = ahead-once (is_seen (entries table) t) refl;
+        below = labels-same.below;
+        node_count_is = labels-same.node_count_is;
+      }
 
-      pub sound-label : IsPlaced (is_seen (entries table) t) (length (entries table)) l → IsSoundGraph (with_ahead table t) shown new edges count (numbers ++ l ∷ []) pairs
-      sound-label p = record {
+      -- for a node to come
+      pub sound-label : shown + length numbers < length new → IsSoundGraph (with_ahead table t) shown new edges count (numbers ++ l ∷ []) pairs relabels
+      sound-label spare = record {
         lists = lists-same;
-        labels = record {
-          few_nodes = labels-same.few_nodes;
-          few_labels = labels-same.few_labels;
-          once = ahead-once (is_seen (entries table) t) refl;
-          below = labels-same.below;
-          node_count_is = labels-same.node_count_is;
-        };
+        labels = labels-ahead;
         reserved = record {
-          next = next-ahead (is_seen (entries table) t) p;
+          labels = entries-new table t l e numbers o.reserved.labels;
+          relabels = entries-kept table t relabels o.reserved.relabels;
           rows = omega (arith, spare, length-append numbers (l ∷ []));
+          children = children-same;
+          parents = parents-same;
+        };
+      }
+
+      -- for a node that there is
+      pub sound-relabel : IsSoundGraph (with_ahead table t) shown new edges count numbers pairs (relabels ++ l ∷ [])
+      sound-relabel = record {
+        lists = lists-same;
+        labels = labels-ahead;
+        reserved = record {
+          labels = entries-kept table t numbers o.reserved.labels;
+          relabels = entries-new table t l e relabels o.reserved.relabels;
+          rows = omega (arith, o.reserved.rows, s.size);
           children = children-same;
           parents = parents-same;
         };
@@ -202,7 +222,7 @@ module _ (shown : ℕ) (old new : List Node) (edges u v : ℕ) (s : AreSound sho
     few_edges = omega arith;
   }
 
-empty : IsSoundGraph (record { texts = []; ahead = [] }) 0 [] 0 0 [] []
+empty : IsSoundGraph (record { texts = []; ahead = [] }) 0 [] 0 0 [] [] []
 unfolding IsDistinct
 empty = record {
   lists = record {
@@ -215,7 +235,6 @@ empty = record {
   };
   labels = record {
     few_nodes = omega arith;
-    few_labels = omega arith;
     once = tt;
     below = λ n l e. cc;
     node_count_is = refl;
@@ -223,10 +242,11 @@ empty = record {
   reserved = fits-cleared (record { texts = []; ahead = [] }) 0 [] (omega arith);
 }
 
-pub sound-empty : (table : LabelTable) (nodes : NodeTable) (numbers : List ℕ) (pairs : List (ℕ × ℕ)) → table ≡ record { texts = []; ahead = [] } → nodes ≡ record { nodes = []; shown = 0 } → numbers ≡ [] → pairs ≡ []
-    → IsSoundGraph table nodes.shown nodes.nodes 0 0 numbers pairs
-sound-empty table nodes numbers pairs t n l p =
-    subst (λ x. IsSoundGraph x nodes.shown nodes.nodes 0 0 numbers pairs) (sym t)
-    (subst (λ x. IsSoundGraph (record { texts = []; ahead = [] }) x.shown x.nodes 0 0 numbers pairs) (sym n)
-    (subst (λ x. IsSoundGraph (record { texts = []; ahead = [] }) 0 [] 0 0 x pairs) (sym l)
-    (subst (λ x. IsSoundGraph (record { texts = []; ahead = [] }) 0 [] 0 0 [] x) (sym p) empty)))
+pub sound-empty : (table : LabelTable) (nodes : NodeTable) (numbers : List ℕ) (pairs : List (ℕ × ℕ)) (relabels : List ℕ) → table ≡ record { texts = []; ahead = [] } → nodes ≡ record { nodes = []; shown = 0 } → numbers ≡ [] → pairs ≡ [] → relabels ≡ []
+    → IsSoundGraph table nodes.shown nodes.nodes 0 0 numbers pairs relabels
+sound-empty table nodes numbers pairs relabels t n l p r =
+    subst (λ x. IsSoundGraph x nodes.shown nodes.nodes 0 0 numbers pairs relabels) (sym t)
+    (subst (λ x. IsSoundGraph (record { texts = []; ahead = [] }) x.shown x.nodes 0 0 numbers pairs relabels) (sym n)
+    (subst (λ x. IsSoundGraph (record { texts = []; ahead = [] }) 0 [] 0 0 x pairs relabels) (sym l)
+    (subst (λ x. IsSoundGraph (record { texts = []; ahead = [] }) 0 [] 0 0 [] x relabels) (sym p)
+    (subst (λ x. IsSoundGraph (record { texts = []; ahead = [] }) 0 [] 0 0 [] [] x) (sym r) empty))))

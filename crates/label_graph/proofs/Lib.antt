@@ -2,6 +2,9 @@ pub mod Positions
 pub mod SearchedPieces
 pub mod Tables
 pub mod ReservedLabels
+pub mod ShownLabels
+pub mod TakenNumbers
+pub mod ExchangedNumbers
 pub mod ReservedPairs
 pub mod EdgeLists
 pub mod Exchanged
@@ -23,3 +26,4 @@ pub mod Uses
 pub mod GoneNodes
 pub mod NewNodes
 pub mod Additions
+pub mod NewLabels

@@ -47,7 +47,7 @@ some-first : {X Y : Type 0} (f : X → Option Y) (o : Option X) → IsSome (opti
 some-first f None h = h
 some-first f (Some x) h = refl
 
-module _ (table : LabelTable) (shown : ℕ) (nodes : List Node) (edges count : ℕ) (numbers : List ℕ) (pairs : List (ℕ × ℕ)) (s : IsSoundGraph table shown nodes edges count numbers pairs) where
+module _ (table : LabelTable) (shown : ℕ) (nodes : List Node) (edges count : ℕ) (numbers : List ℕ) (pairs : List (ℕ × ℕ)) (relabels : List ℕ) (s : IsSoundGraph table shown nodes edges count numbers pairs relabels) where
   g : Graph
   g = graph_by table shown nodes
 

@@ -1,15 +1,18 @@
 -- The table of labels, cut where the labels end.
-use Rattle.std.proofs.Common.{◌≡◌, ℕ, zero, suc, ◌+◌, ◌≤◌, ◌<◌, true, false, List, [], ◌∷◌, ◌++◌, length, take, drop, Some, refl, sym, ap, ◌∙◌, subst, arith, rules, append_assoc}
+use Rattle.std.proofs.Common.{◌≡◌, ℕ, zero, suc, ◌+◌, ◌≤◌, ◌<◌, true, false, List, [], ◌∷◌, ◌++◌, length, take, drop, Some, refl, sym, ap, ◌∙◌, arith, rules, append_assoc, get_or, set, nat_eq}
 use Rattle.std.specs.Prelude.{slice_get, bytes_eq, if◌then◌else◌, nat_lt, Result, Ok, Err, OnOk, IfOk}
-use Rattle.std.specs.List.{IsDistinct}
+use Rattle.std.specs.List.{IsDistinct, swap}
 use Rattle.std.specs.Cmp.{IsEquivalence}
 use Rattle.std.specs.Cmp.Rules.{comparing}
 use Rattle.std.proofs.lemmas.List.{length-take-le, take-append-drop}
 use Rattle.std.proofs.lemmas.Bool.Decides.{nat_tests}
-use Rattle.std.proofs.lemmas.Map.Keys.{IsDistinct-push}
+use Rattle.std.proofs.lemmas.Bool.{eqb-true}
+use Rattle.std.proofs.lemmas.Cmp.{nat_eq_equiv}
+use Rattle.std.proofs.lemmas.List.Sorted.{IsPermutation-swap}
+use Rattle.std.proofs.lemmas.Map.Keys.{IsDistinct-push, IsDistinct-IsPermutation}
 use Rattle.indexmap.proofs.MapLemmas.{distinct-take}
 use Rattle.graph_spec.specs.Graphs.{is_seen}
-use Rattle.label_graph.specs.LabelTable.{LabelTable, entries, with_shown, with_ahead, IsPlaced}
+use Rattle.label_graph.specs.LabelTable.{LabelTable, entries, table_of, with_shown, with_ahead, exchanged, renumbered}
 
 pub bytes_laws : IsEquivalence bytes_eq
 bytes_laws = search (comparing, rules)
@@ -17,24 +20,8 @@ bytes_laws = search (comparing, rules)
 pub texts-distinct : (n : ℕ) (keys : List (List ℕ)) → IsDistinct bytes_eq keys → IsDistinct bytes_eq (take n keys)
 texts-distinct n keys d = distinct-take bytes_laws n keys d
 
--- a table as it is seen
-abbrev pub table_of : List (List ℕ) → ℕ → LabelTable
-table_of keys n = record { texts = take n keys; ahead = drop n keys }
-
 pub entries-of : (keys : List (List ℕ)) (n : ℕ) → entries (table_of keys n) ≡ keys
 entries-of keys n = take-append-drop n keys
-
-take-more : {X : Type 0} (xs : List X) (n : ℕ) → take (suc n) xs ≡ take n xs ++ take 1 (drop n xs)
-take-more [] zero = refl
-take-more [] (suc n) = refl
-take-more (x ∷ xs) zero = refl
-take-more (x ∷ xs) (suc n) = ap (λ l. x ∷ l) (take-more xs n)
-
-drop-more : {X : Type 0} (xs : List X) (n : ℕ) → drop (suc n) xs ≡ drop 1 (drop n xs)
-drop-more [] zero = refl
-drop-more [] (suc n) = refl
-drop-more (x ∷ xs) zero = refl
-drop-more (x ∷ xs) (suc n) = drop-more xs n
 
 -- one more text lies ahead
 take-push : {X : Type 0} (xs : List X) (n : ℕ) (x : X) → n ≤ length xs → take n (xs ++ x ∷ []) ≡ take n xs
@@ -56,19 +43,53 @@ below-is l n h = grind (arith, nat_tests)
 above-is : (l n : ℕ) → n ≤ l → nat_lt l n ≡ false
 above-is l n h = grind (arith, nat_tests)
 
--- the first text ahead becomes a label
-pub shown-more : (keys : List (List ℕ)) (n l : ℕ) → n ≤ length keys → n ≤ l → table_of keys (n + 1) ≡ with_shown (table_of keys n) l
+-- two entries change places
+set-same : {X : Type 0} (xs : List X) (n : ℕ) (d : X) → set xs n (get_or xs n d) ≡ xs
+set-same [] n d = refl
+set-same (x ∷ xs) zero d = refl
+set-same (x ∷ xs) (suc n) d = ap (λ l. x ∷ l) (set-same xs n d)
+
+pub swap-same : {X : Type 0} (xs : List X) (n : ℕ) → swap xs n n ≡ xs
+swap-same [] n = refl
+swap-same (x ∷ xs) n = ap (λ l. set l n (get_or (x ∷ xs) n x)) (set-same (x ∷ xs) n x) ∙ set-same (x ∷ xs) n x
+
+pub swap-distinct : (keys : List (List ℕ)) (a b : ℕ) → a < length keys → b < length keys → IsDistinct bytes_eq keys → IsDistinct bytes_eq (swap keys a b)
+swap-distinct keys a b p q d = IsDistinct-IsPermutation bytes_eq bytes_laws.symm keys (swap keys a b) (IsPermutation-swap keys (swap keys a b) a b p q refl) d
+
+pub exchanged-second : (a b : ℕ) → exchanged a b b ≡ a
+exchanged-second a b =
+    elim (nat_eq b a) as (λ x. nat_eq b a ≡ x → (if x then b else (if nat_eq b b then a else b)) ≡ a) [
+      | true ↦ λ q. eqb-true b a q
+      | false ↦ λ q. ap (λ x. if x then a else b) (nat_eq_equiv.refl b)
+    ] refl
+
+-- an entry becomes a label
+pub shown-more : (keys : List (List ℕ)) (n l : ℕ) → n ≤ length keys → n ≤ l → table_of (swap keys n l) (n + 1) ≡ with_shown (table_of keys n) l
 shown-more keys n l h late =
     let next : n + 1 ≡ suc n = omega arith in
-    let more : table_of keys (suc n) ≡ record { texts = take n keys ++ take 1 (drop n keys); ahead = drop 1 (drop n keys) } =
-    λ i. record { texts = take-more keys n i; ahead = drop-more keys n i } in
-    let test : nat_lt l (length (take n keys)) ≡ false = above-is l (length (take n keys)) (omega (arith, late, length-take-le n keys h)) in
-    ap (table_of keys) next ∙ more ∙ ap (λ b. if b then table_of keys n else record { texts = take n keys ++ take 1 (drop n keys); ahead = drop 1 (drop n keys) }) (sym test)
+    let size = length-take-le n keys h in
+    let test : nat_lt l (length (take n keys)) ≡ false = above-is l (length (take n keys)) (omega (arith, late, size)) in
+    ap (table_of (swap keys n l)) next
+    ∙ ap (λ k. table_of (swap k n l) (suc n)) (sym (entries-of keys n))
+    ∙ ap (λ k. table_of (swap (entries (table_of keys n)) k l) (suc k)) (sym size)
+    ∙ ap (λ b. if b then table_of keys n else table_of (swap (entries (table_of keys n)) (length (take n keys)) l) (suc (length (take n keys)))) (sym test)
 
 pub shown-same : (keys : List (List ℕ)) (n l : ℕ) → n ≤ length keys → l < n → table_of keys n ≡ with_shown (table_of keys n) l
 shown-same keys n l h early =
     let test : nat_lt l (length (take n keys)) ≡ true = below-is l (length (take n keys)) (omega (arith, early, length-take-le n keys h)) in
-    ap (λ b. if b then table_of keys n else record { texts = take n keys ++ take 1 (drop n keys); ahead = drop 1 (drop n keys) }) (sym test)
+    ap (λ b. if b then table_of keys n else table_of (swap (entries (table_of keys n)) (length (take n keys)) l) (suc (length (take n keys)))) (sym test)
+
+-- the number that it has then
+pub number-more : (keys : List (List ℕ)) (n l : ℕ) → n ≤ length keys → n ≤ l → n ≡ renumbered (table_of keys n) l l
+number-more keys n l h late =
+    let size = length-take-le n keys h in
+    let test : nat_lt l (length (take n keys)) ≡ false = above-is l (length (take n keys)) (omega (arith, late, size)) in
+    sym (exchanged-second n l) ∙ ap (λ k. exchanged k l l) (sym size) ∙ ap (λ b. if b then l else exchanged (length (take n keys)) l l) (sym test)
+
+pub number-same : (keys : List (List ℕ)) (n l : ℕ) → n ≤ length keys → l < n → l ≡ renumbered (table_of keys n) l l
+number-same keys n l h early =
+    let test : nat_lt l (length (take n keys)) ≡ true = below-is l (length (take n keys)) (omega (arith, early, length-take-le n keys h)) in
+    ap (λ b. if b then l else exchanged (length (take n keys)) l l) (sym test)
 
 -- a text that is no entry is put behind them
 pub distinct-more : (keys : List (List ℕ)) (t : List ℕ) → IsDistinct bytes_eq keys → is_seen keys t ≡ false → IsDistinct bytes_eq (keys ++ t ∷ [])
@@ -98,11 +119,3 @@ module _ {E : Type 0} (result : Result ℕ E) (before : LabelTable) where
             ∙ get_at_seam (entries before) t []
         | Err x ↦ λ e k. k
       ] h n
-
-  pub ahead-placed : (old : LabelTable) (t : List ℕ) → before ≡ old → is_seen (entries old) t ≡ false → IfOk result (λ l. l ≡ length (entries before))
-      → IfOk result (IsPlaced (is_seen (entries old) t) (length (entries old)))
-  ahead-placed old t same unseen n =
-      elim result as (λ r. IfOk r (λ l. l ≡ length (entries before)) → IfOk r (IsPlaced (is_seen (entries old) t) (length (entries old)))) [
-        | Ok l ↦ λ k. subst (λ b. IsPlaced b (length (entries old)) l) (sym unseen) (k ∙ ap (λ s. length (entries s)) same)
-        | Err x ↦ λ k. k
-      ] n

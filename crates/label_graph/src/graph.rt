@@ -5,11 +5,13 @@ ghost use Rattle.graph_spec.specs.Graphs.{IsGraph, empty_graph, is_live, label_o
 ghost use Rattle.graph_spec.specs.Changes.{with_edge, without_edge, without_node, is_used};
 ghost use Rattle.graph_spec.specs.Members.{Lists};
 ghost use Rattle.graph_spec.specs.Shapes.{shape_of};
-ghost use Rattle.label_graph.specs.ReservedGraphs.{none_reserved, with_reserved_label, with_reserved_pair, without_reserved_pair, has_pair, can_be_joined, AddsReserved};
+ghost use Rattle.change_spec.specs.Steps.{labelled};
+ghost use Rattle.label_graph.specs.ReservedGraphs.{none_reserved, with_reserved_label, with_reserved_pair, with_reserved_relabel, without_reserved_pair, without_reserved_relabel, has_pair, has_text, can_be_joined, FitsLabels, FirstFitsLabels, AddsReserved};
 ghost use Rattle.label_graph.specs.GraphViews.{label_number, is_linked, numbered_shape, live_count, edge_count};
 
 use crate::labels::Labels;
 use crate::node::Nodes;
+use crate::numbers::{show, take_number};
 use crate::pairs::{ending, starting, take_pair};
 use crate::view::GraphView;
 use px_base::{Memory, NodeId, Steps, Text};
@@ -17,11 +19,12 @@ use std::alloc::Global;
 use std::marker::Model;
 use std::sync::ledger::Ledger;
 
-/// A directed graph with a label on each node, and capacity reserved for additions: a list of labels, for the nodes to
-/// come in their order, and a list of pairs, for edges. Nodes have the numbers from 0 in the order in which they were
-/// added; at most 2^30 nodes and 2^30 edges.
+/// A directed graph with a label on each node, and capacity reserved for what is to be done: a list of labels, for the
+/// nodes to come in their order, a list of pairs, for edges, and a list of labels for nodes that there are. Nodes have the
+/// numbers from 0 in the order in which they were added; at most 2^30 nodes, 2^30 edges and 2^30 labels that were ever
+/// seen.
 ///
-/// An addition is made in two calls, of which only the first can fail:
+/// An addition is made in two calls, of which only the first can fail, and so is another label for a node:
 ///
 ///     let mut graph = Graph::new(alloc)?;
 ///     graph.reserve_node(alloc, &label)?;
@@ -30,6 +33,8 @@ use std::sync::ledger::Ledger;
 ///     let bo = graph.add_node();
 ///     graph.reserve_edge(ana, bo)?;
 ///     graph.add_edge(ana, bo);
+///     graph.reserve_label(alloc, &other)?;
+///     graph.set_label(bo, &other);
 pub struct Graph {
     labels: Labels,
     nodes: Nodes,
@@ -37,6 +42,7 @@ pub struct Graph {
     edge_count: u32,
     label_numbers: Vec<u32>,
     pairs: Vec<(NodeId, NodeId)>,
+    relabel_numbers: Vec<u32>,
 }
 
 impl Drop for Graph {
@@ -49,11 +55,13 @@ impl Drop for Graph {
             edge_count: _,
             label_numbers,
             pairs,
+            relabel_numbers,
         } = self;
         drop(labels);
         drop(nodes);
         drop(label_numbers);
         drop(pairs);
+        drop(relabel_numbers);
     }
 }
 
@@ -69,10 +77,11 @@ impl Model for Graph {
 
     ghost view = { λ g. record {
       graph = graph_by g.labels g.nodes.shown g.nodes.nodes;
-      reserved = reserved_by g.labels g.label_numbers.items g.pairs.items;
+      reserved = reserved_by g.labels g.label_numbers.items g.pairs.items g.relabel_numbers.items;
     } };
 
-    ghost invariant = { λ g. IsSoundGraph g.labels g.nodes.shown g.nodes.nodes g.edge_count g.node_count g.label_numbers.items g.pairs.items };
+    ghost invariant = { λ g.
+        IsSoundGraph g.labels g.nodes.shown g.nodes.nodes g.edge_count g.node_count g.label_numbers.items g.pairs.items g.relabel_numbers.items };
 }
 
 // Reading.
@@ -232,7 +241,7 @@ impl Graph {
     }
 }
 
-// Reserving for additions, and the additions.
+// Reserving capacity, and what it is for.
 impl Graph {
     /// A graph with no nodes. O(1); it takes 16 KiB.
     pub fn new(alloc: Global) -> Result<Graph, Memory>
@@ -246,6 +255,7 @@ impl Graph {
             edge_count: 0,
             label_numbers: Vec::new(alloc),
             pairs: Vec::new(alloc),
+            relabel_numbers: Vec::new(alloc),
         })
     }
 
@@ -282,20 +292,61 @@ impl Graph {
         Ok(())
     }
 
-    /// Adds a node with the first label that is reserved, and gives its number, the next one. O(r) where r labels are
-    /// reserved, no memory.
+    /// Reserves capacity for giving that label to a node that there is, behind what is reserved. Where memory runs out all
+    /// is as before. Expected O(b) for a label of b bytes, amortized. It takes 4 bytes, and a label that is new its text and
+    /// its entry in the table.
+    pub fn reserve_label(&mut self, alloc: Global, label: &Text) -> Result<(), Memory>
+        ensures graph { self.new.graph ≡ self.old.graph }
+        ensures ok { OnOk result (self.new.reserved ≡ with_reserved_relabel self.old.reserved label.now) }
+        ensures err { OnErr result (self.new ≡ self.old) }
+    {
+        self.relabel_numbers.reserve(1)?;
+        let number = self.labels.reserve(alloc, label)?;
+        self.relabel_numbers.push_reserved(number);
+        Ok(())
+    }
+
+    /// Adds a node with the first label that is reserved for one, and gives its number, the next one. A label that wasn't
+    /// seen yet comes behind those seen. O(r) where r labels are reserved, no memory.
     pub fn add_node(&mut self) -> NodeId
         requires reserved { 0 < length self.old.reserved.labels }
         requires few { length self.old.graph.allocated < 2 ^ 30 }
+        requires few_labels { FirstFitsLabels self.old }
         ensures number { result ≡ length self.old.graph.allocated }
         ensures added { AddsReserved self.old self.new }
     {
         let label = self.label_numbers.remove(0);
         let added = self.nodes.shown() as u32;
-        self.labels.show(label);
-        self.nodes.push_node(label);
+        let number = show(
+            &mut self.labels,
+            &mut self.label_numbers,
+            &mut self.relabel_numbers,
+            label,
+        );
+        self.nodes.push_node(number);
         self.node_count += 1;
         added
+    }
+
+    /// Gives a live node a label for which capacity is reserved. A label that wasn't seen yet comes behind those seen; the
+    /// one that the node had stays among them. Expected O(b + r) for a label of b bytes, where r labels are reserved, no
+    /// memory.
+    pub fn set_label(&mut self, u: NodeId, label: &Text)
+        requires reserved { IsTrue (has_text self.old.reserved.relabels label.now) }
+        requires live { IsTrue (is_live self.old.graph u) }
+        requires few_labels { FitsLabels self.old.graph label.now }
+        ensures graph { self.new.graph ≡ labelled self.old.graph u label.now }
+        ensures reserved { self.new.reserved ≡ without_reserved_relabel self.old.reserved label.now }
+    {
+        let entry = self.labels.entry(label).unwrap();
+        take_number(&mut self.relabel_numbers, entry);
+        let number = show(
+            &mut self.labels,
+            &mut self.label_numbers,
+            &mut self.relabel_numbers,
+            entry,
+        );
+        self.nodes.write_label(u, Some(number));
     }
 
     /// Adds an edge between live nodes for which capacity is reserved, and which isn't there yet. O(r) where r edges are
@@ -314,14 +365,15 @@ impl Graph {
         self.edge_count += 1;
     }
 
-    /// Leaves nothing reserved. The memory stays with the graph, for later additions. O(r) where r nodes and edges are
-    /// reserved, no memory.
+    /// Leaves nothing reserved. The memory stays with the graph, for later additions. O(r) where r nodes, edges and labels
+    /// are reserved, no memory.
     pub fn clear_room(&mut self)
         ensures { self.new ≡ record { graph = self.old.graph; reserved = none_reserved } }
     {
         self.labels.clear();
         self.label_numbers.clear();
         self.pairs.clear();
+        self.relabel_numbers.clear();
     }
 }
 

@@ -1,8 +1,8 @@
 // The table of labels.
-ghost use Rattle.std.specs.Prelude.{◌≡◌, ◌<◌, ◌≤◌, ◌^◌, ◌++◌, ◌∷◌, [], length, slice_get, Some, bytes_eq, position, false, IfOk, IsTrue, OnOk, OnErr};
+ghost use Rattle.std.specs.Prelude.{◌≡◌, ◌<◌, ◌≤◌, ◌^◌, ◌++◌, ◌∷◌, [], length, slice_get, Some, bytes_eq, position, false, swap, IfOk, IsTrue, OnOk, OnErr};
 ghost use Rattle.std.specs.List.{IsDistinct};
 ghost use Rattle.graph_spec.specs.Graphs.{is_seen};
-ghost use Rattle.label_graph.specs.LabelTable.{IsPlaced, entries, with_ahead, with_shown};
+ghost use Rattle.label_graph.specs.LabelTable.{entries, with_ahead, with_shown, renumbered};
 
 use indexmap::IndexSet;
 use px_base::{Memory, Recent, Text};
@@ -98,8 +98,8 @@ impl Labels {
         (l as usize) < self.table.len() && self.table.as_slice()[l as usize] == *t
     }
 
-    // The number of the entry, and `None` exactly where the text is none.
-    fn entry(&self, t: &Text) -> Option<u32>
+    /// The number of the entry, and `None` exactly where the text is none.
+    pub(crate) fn entry(&self, t: &Text) -> Option<u32>
         ensures { result ≡ position (bytes_eq t.now) (entries self.now) }
     {
         let at = self.table.get_index_of(t)?;
@@ -126,7 +126,6 @@ impl Labels {
     pub(crate) fn reserve(&mut self, alloc: Global, text: &Text) -> Result<u32, Memory>
         ensures ahead { OnOk result (self.new ≡ with_ahead self.old text.now) }
         ensures number { IfOk result (λ l. slice_get (entries self.new) l ≡ Some text.now) }
-        ensures placed { IfOk result (IsPlaced (is_seen (entries self.old) text.now) (length (entries self.old))) }
         ensures err { OnErr result (self.new ≡ self.old) }
     {
         match self.recall(text) {
@@ -145,16 +144,21 @@ impl Labels {
         }
     }
 
-    /// Makes a label of the entry, which is one already or is the first text ahead.
-    pub(crate) fn show(&mut self, l: u32)
-        requires few { length self.old.texts < 2 ^ 30 }
-        requires next { l ≤ length self.old.texts }
+    /// Makes a label of the entry, and gives the number that it has then. Where it isn't a label yet, it has changed places
+    /// with the first text ahead.
+    pub(crate) fn show(&mut self, l: u32) -> u32
+        requires few { length self.old.texts ≤ l → length self.old.texts < 2 ^ 30 }
         requires entry { l < length (entries self.old) }
-        ensures { self.new ≡ with_shown self.old l }
+        ensures shown { self.new ≡ with_shown self.old l }
+        ensures number { result ≡ renumbered self.old l l }
     {
-        if l as usize >= self.effective {
-            self.effective += 1;
+        if (l as usize) < self.effective {
+            return l;
         }
+        let first = self.effective;
+        bring_forward(&mut self.table, first, l as usize);
+        self.effective = first + 1;
+        first as u32
     }
 
     // Puts a text that is no entry behind the entries.
@@ -171,6 +175,17 @@ impl Labels {
         let key = text.copy(alloc)?;
         self.table.insert(key)?;
         Ok(l as u32)
+    }
+}
+
+// Exchanges an entry with the first of those that are no labels.
+fn bring_forward(table: &mut IndexSet<Text>, first: usize, l: usize)
+    requires first { first < length table.old.keys }
+    requires entry { l < length table.old.keys }
+    ensures { table.new.keys ≡ swap table.old.keys first l }
+{
+    if l != first {
+        table.swap_indices(first, l);
     }
 }
 

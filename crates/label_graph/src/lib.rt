@@ -6,6 +6,7 @@ mod gone;
 mod graph;
 mod labels;
 mod node;
+mod numbers;
 mod pairs;
 mod segment;
 #[cfg(test)]

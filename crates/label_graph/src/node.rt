@@ -253,21 +253,21 @@ impl Nodes {
         ensures children { (w : ℕ) → children_of self.new.nodes w ≡ children_of self.old.nodes w }
         ensures parents { (w : ℕ) → parents_of self.new.nodes w ≡ parents_of self.old.nodes w }
     {
-        self.mark_gone(n);
+        self.write_label(n, None);
         self.offer_children(n);
         self.offer_parents(n);
     }
 
-    // Takes the label away.
-    fn mark_gone(&mut self, n: NodeId)
+    /// Writes the number of a node's label, or none, which leaves the node gone and the room of its lists with it.
+    pub(crate) fn write_label(&mut self, n: NodeId, label: Option<u32>)
         requires { n < self.old.shown }
-        ensures labels { labels_of self.new.shown self.new.nodes ≡ slice_set (labels_of self.old.shown self.old.nodes) n None }
+        ensures labels { labels_of self.new.shown self.new.nodes ≡ slice_set (labels_of self.old.shown self.old.nodes) n label }
         ensures shown { self.new.shown ≡ self.old.shown }
         ensures reserved { KeepsReserved self.old.nodes self.new.nodes }
         ensures children { (w : ℕ) → children_of self.new.nodes w ≡ children_of self.old.nodes w }
         ensures parents { (w : ℕ) → parents_of self.new.nodes w ≡ parents_of self.old.nodes w }
     {
-        self.rows[n as usize].label = None;
+        self.rows[n as usize].label = label;
     }
 }
 

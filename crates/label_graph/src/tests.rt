@@ -10,7 +10,7 @@ use std::sync::ledger::{Blank, Ledger};
 use std::test::Fail;
 
 fn put_node(rt: &impl Abort, alloc: Global, graph: &mut Graph) -> Result<NodeId, Fail> {
-    assert!(rt; graph.created() < 1 << 30);
+    assert!(rt; graph.created() < 1 << 30 && graph.labels().len() < 1 << 30);
     graph.reserve_node(alloc, &Text::from_bytes(alloc, b"a")?)?;
     let added = graph.add_node();
     Ok(added)

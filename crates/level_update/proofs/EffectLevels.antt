@@ -1,6 +1,6 @@
 -- A level on the way to the graph that a change leaves.
 use Rattle.std.proofs.Common.{◌≡◌, ℕ, zero, suc, ◌+◌, ◌<◌, ◌≤◌, ◌^◌, List, [], ◌∷◌, ◌++◌, length, Option, Some, None, IsSome, IsTrue, is_some, refl, sym, ◌∙◌, ap, subst, arith, inl, inr, true, false, Bool, cond, take, get_or, true≢false}
-use Rattle.std.specs.Prelude.{nat_eq, ◌&&◌, ◌||◌, ◌⊎◌}
+use Rattle.std.specs.Prelude.{nat_eq, ◌&&◌, ◌||◌, not, ◌⊎◌}
 use Rattle.std.specs.FinSet as set
 use Rattle.std.proofs.lemmas.Bool.{false_from_ne_true, both_ways, cases_Bool, cases_lt}
 use Rattle.std.proofs.lemmas.Bool.Decides.{eqb_tells, Decides-eqb}
@@ -27,7 +27,7 @@ use Rattle.level_spec.specs.Keyed.{KeysStay, AreLabelled, IsLevelOf, LabelsGoUp,
 use Rattle.ak_family.specs.Families.{level_at, blocks_at}
 use Rattle.ak_family.specs.LevelDrafts.{changes_at, blocks_shown, labels_shown, support_shown, key_shown, AreOver, AreSameBut, KeepsAllButSupports, KeepsLabelsAndKeys}
 use Rattle.level_update.specs.Placed.{LabelsKept}
-use Rattle.level_update.specs.LevelEffects.{KeyHasLabel, own_number, HasOwnKey, KeysBegin, IsLevelOnWay, IsLevelDrafted, IsDraftedBelow, AreLevelsDrafted, IsNodeJoined, IsNodeLeft, IsEdgeLowered, IsEdgeRaised}
+use Rattle.level_update.specs.LevelEffects.{KeyHasLabel, own_number, HasOwnKey, KeysBegin, IsLevelOnWay, IsLevelRelabelled, IsLevelDrafted, IsDraftedBelow, AreLevelsDrafted, IsNodeJoined, IsNodeLeft, IsEdgeLowered, IsEdgeRaised}
 use Rattle.level_update.proofs.Bases.{next_is, AreBases}
 use Rattle.level_update.proofs.Unchanged.{none_blocks, none_labels, none_support, none_key}
 
@@ -48,7 +48,7 @@ begin_kept f d d2 (suc i) k w = record {
 }
 
 -- a node whose block and its key have stayed
-own_stays : (f : List KeyedQuotient) (d d2 : List KeyedChanges) (i n : ℕ) → AreSameBut i d d2 → at (blocks_shown f d2 i) n ≡ at (blocks_shown f d i) n
+pub own_stays : (f : List KeyedQuotient) (d d2 : List KeyedChanges) (i n : ℕ) → AreSameBut i d d2 → at (blocks_shown f d2 i) n ≡ at (blocks_shown f d i) n
     → ((b : ℕ) (numbers : List ℕ) → key_shown f d i b ≡ Some numbers → key_shown f d2 i b ≡ Some numbers) → HasOwnKey f d i n → HasOwnKey f d2 i n
 own_stays f d d2 zero n others same keys w = tt
 own_stays f d d2 (suc i) n others same keys w = (
@@ -133,7 +133,7 @@ own_labelled g2 came f d (suc i) n label number below over h begin is own b e =
     let r = begin.is b number (ap first_number e) in
     r.2 ∙ sym r.1 ∙ below_label g2 came f d i n label number below is own
 
-begin_joined : (g2 : Graph) (came : List ℕ) (f : List KeyedQuotient) (d d2 : List KeyedChanges) (i n label number : ℕ) → IsDraftedBelow came g2 f d i → AreSameBut i d d2
+pub begin_joined : (g2 : Graph) (came : List ℕ) (f : List KeyedQuotient) (d d2 : List KeyedChanges) (i n label number : ℕ) → IsDraftedBelow came g2 f d i → AreSameBut i d d2
     → label_number g2 n ≡ Some label → own_number f d label n i ≡ Some number → IsNodeJoined f i n label number d d2 → KeysBegin f d i → KeysBegin f d2 i
 begin_joined g2 came f d d2 zero n label number below others is own j begin = record {
   is = λ b l e. elim (eqb_tells b j.block) [
@@ -165,11 +165,11 @@ off_edges g n u v graph dead on = (
   false_from_ne_true (nat_eq v n) (λ h. elim (eqb_tells v n) [ inl s ↦ true≢false (sym (graph.onto u v on) ∙ ap (is_live g) s.1 ∙ dead) | inr o ↦ absurd (true≢false (sym h ∙ o.0)) ]),
 )
 
-put_off : (n : ℕ) (o : Option ℕ) (block block2 : List (Option ℕ)) → ((m : ℕ) → at block2 m ≡ cond (nat_eq m n) o (at block m)) → (m : ℕ) → nat_eq m n ≡ false → at block2 m ≡ at block m
+pub put_off : (n : ℕ) (o : Option ℕ) (block block2 : List (Option ℕ)) → ((m : ℕ) → at block2 m ≡ cond (nat_eq m n) o (at block m)) → (m : ℕ) → nat_eq m n ≡ false → at block2 m ≡ at block m
 put_off n o block block2 put m h = put m ∙ ap (λ t. cond t o (at block m)) h
 
 -- the node that has come is in the block of its own number
-own_joined : (f : List KeyedQuotient) (d d2 : List KeyedChanges) (i n label number : ℕ) → AreSameBut i d d2 → own_number f d label n i ≡ Some number → IsNodeJoined f i n label number d d2
+pub own_joined : (f : List KeyedQuotient) (d d2 : List KeyedChanges) (i n label number : ℕ) → AreSameBut i d d2 → own_number f d label n i ≡ Some number → IsNodeJoined f i n label number d d2
     → HasOwnKey f d2 i n
 own_joined f d d2 zero n label number others own j = tt
 own_joined f d d2 (suc i) n label number others own j = (
@@ -182,8 +182,8 @@ own_joined f d d2 (suc i) n label number others own j = (
 
 pub way_joined : (g g2 : Graph) (all came : List ℕ) (f : List KeyedQuotient) (d d2 : List KeyedChanges) (i n label number : ℕ) → IsGraph g → is_live g n ≡ false
     → IsDraftedBelow all g2 f d i → IsLevelOnWay g2 g came [] f d i → AreSameBut i d d2 → label_number g2 n ≡ Some label → own_number f d label n i ≡ Some number
-    → IsNodeJoined f i n label number d d2 → IsLevelOnWay g2 g (came ++ n ∷ []) [] f d2 i
-way_joined g g2 all came f d d2 i n label number graph dead below w others is own j = record {
+    → IsNodeJoined f i n label number d d2 → ((x y : ℕ) → support_shown f d2 i x y ≡ support_shown f d i x y) → IsLevelOnWay g2 g (came ++ n ∷ []) [] f d2 i
+way_joined g g2 all came f d d2 i n label number graph dead below w others is own j counts = record {
   over = j.over;
   begin = begin_joined g2 all f d d2 i n label number below others is own j w.begin;
   stay = record { kept = λ b numbers e. j.has_block.keys_stay.kept b numbers (w.stay.kept b numbers e) };
@@ -197,7 +197,7 @@ way_joined g g2 all came f d d2 i n label number graph dead below w others is ow
   ];
   supports = counts_agree g (blocks_shown f d i) (blocks_shown f d2 i) (support_shown f d i) (support_shown f d2 i) w.supports (λ u v on.
       let off = off_edges g n u v graph dead on in
-      (put_off n (Some j.block) (blocks_shown f d i) (blocks_shown f d2 i) j.blocks u off.0, put_off n (Some j.block) (blocks_shown f d i) (blocks_shown f d2 i) j.blocks v off.1)) j.supports;
+      (put_off n (Some j.block) (blocks_shown f d i) (blocks_shown f d2 i) j.blocks u off.0, put_off n (Some j.block) (blocks_shown f d i) (blocks_shown f d2 i) j.blocks v off.1)) counts;
 }
 
 -- the nodes below a place are lists that grow by one
@@ -326,22 +326,29 @@ added_few g g2 e f d i j w few way x y =
 
 -- ---- the end
 
--- a level on which all effects are drafted
+none_moved : (a : Bool) → (a && not false) ≡ false → a ≡ false
+none_moved true h = h
+none_moved false h = refl
+
+-- a level on which nodes and edges have come and gone
 pub way_done : (g g2 : Graph) (e : EffectLists) (f : List KeyedQuotient) (d : List KeyedChanges) (i : ℕ) → AreEffects g g2 e → IsGraph g2 → AreBases g f → i < length f
-    → IsLevelOnWay g2 (with_edges (without_edges g e.lost) e.added) e.came e.gone f d i → IsLevelDrafted e.came g2 f d i
+    → IsLevelOnWay g2 (with_edges (without_edges g e.lost) e.added) e.came e.gone f d i → IsLevelRelabelled e [] g2 f d i
 way_done g g2 e f d i w graph base h way =
     let b = base.levels i h in
     record {
-      level = record {
-        partition = moved_partition g g2 e (blocks_at f i) (blocks_shown f d i) (at (labels_shown f d i)) w b.partition way.nodes;
-        block_labels = moved_named g g2 e (blocks_at f i) (blocks_shown f d i) (at (level_at f i).quotient.blocks.labels) (at (labels_shown f d i)) w graph b.partition b.block_labels way.labels.kept way.nodes;
-        supports = counts_after g g2 e (blocks_shown f d i) (support_shown f d i) w way.supports;
+      over = way.over;
+      partition = moved_partition g g2 e (blocks_at f i) (blocks_shown f d i) (at (labels_shown f d i)) w b.partition way.nodes;
+      block_labels = record {
+        is = λ n c off here.
+            (moved_named g g2 e (blocks_at f i) (blocks_shown f d i) (at (level_at f i).quotient.blocks.labels) (at (labels_shown f d i)) w graph b.partition b.block_labels way.labels.kept way.nodes).is n c
+            (none_moved (has e.relabelled n) off) here;
       };
+      supports = counts_after g g2 e (blocks_shown f d i) (support_shown f d i) w way.supports;
       begin = way.begin;
       stay = way.stay;
       labels = way.labels;
-      own = way.own;
-      far = λ n live off. way.nodes.others n off (live_stayed g g2 e n w live);
+      own = λ n on. way.own n (sym (or-false (has e.came n)) ∙ on);
+      far = λ n live off. way.nodes.others n (sym (or-false (has e.came n)) ∙ off) (live_stayed g g2 e n w live);
     }
 
 -- ---- level by level

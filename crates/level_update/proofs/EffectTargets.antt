@@ -1,9 +1,11 @@
 -- The nodes that are affected by the effects of a change.
-use Rattle.std.proofs.Common.{◌≡◌, ◌⊎◌, ℕ, zero, suc, ◌+◌, ◌*◌, ◌<◌, ◌≤◌, ◌^◌, List, [], ◌∷◌, length, Some, IsTrue, refl, sym, ◌∙◌, ap, subst, arith, true, false, true≢false, inl, inr, Bool}
+use Rattle.std.proofs.Common.{◌≡◌, ◌⊎◌, ℕ, zero, suc, ◌+◌, ◌*◌, ◌<◌, ◌≤◌, ◌^◌, List, [], ◌∷◌, ◌++◌, length, Some, IsTrue, refl, sym, ◌∙◌, ap, subst, arith, true, false, true≢false, inl, inr, Bool}
 use Rattle.std.specs.FinSet as set
 use Rattle.std.specs.Prelude.{nat_eq, ◌&&◌, not}
 use Rattle.std.proofs.lemmas.Bool.{or_cases, and_parts}
 use Rattle.std.proofs.lemmas.Bool.Decides.{Decides-eqb}
+use Rattle.std.proofs.lemmas.List.{append-nil}
+use Rattle.std.proofs.lemmas.List.Folds.{list_any-append}
 use Rattle.std.proofs.Math.Nat.{mul-le-mul_left}
 use Rattle.graph_spec.specs.Graphs.{Graph, IsGraph, is_live, has_edge}
 use Rattle.graph_spec.specs.Members.{has}
@@ -24,10 +26,10 @@ use Rattle.keyed_quotient.specs.Changes.{KeyedChanges}
 use Rattle.level_spec.specs.Keyed.{IsKeyed}
 use Rattle.ak_family.specs.Families.{IsKeyedFamily}
 use Rattle.ak_family.specs.LevelDrafts.{blocks_shown, key_shown}
-use Rattle.level_update.specs.LevelCosts.{near_cost, most_move_steps}
+use Rattle.level_update.specs.LevelCosts.{near_cost, most_draft_steps}
 use Rattle.level_update.specs.FamilyDrafts.{FamilyFits, most_steps}
 use Rattle.level_update.specs.MovedLevels.{AreMoved}
-use Rattle.level_update.specs.LevelEffects.{AreLevelsBefore, AreLevelsDrafted, HasOwnKey, keeps_keys}
+use Rattle.level_update.specs.LevelEffects.{AreLevelsBefore, AreLevelsDrafted, HasOwnKey, lone_nodes, keeps_keys}
 use Rattle.level_update.proofs.Bases.{next_is, bases}
 use Rattle.level_update.proofs.EffectLevels.{levels_moving}
 use Rattle.level_update.proofs.MovedDrafts.{HaveMoved, keyed_at}
@@ -35,16 +37,17 @@ use Rattle.level_update.proofs.MovedDrafts.{HaveMoved, keyed_at}
 -- ---- no edge comes or goes
 
 -- the effects, with the nodes that come as their only targets
-came_targets : (g g2 : Graph) (e : EffectLists) → AreEffects g g2 e → e.lost ≡ [] → e.added ≡ [] → AreEffects g g2 (record e { targets = e.came })
-came_targets g g2 e w lost added = record {
+came_targets : (g g2 : Graph) (e : EffectLists) → AreEffects g g2 e → e.lost ≡ [] → e.added ≡ [] → e.relabelled ≡ [] → AreEffects g g2 (record e { targets = e.came })
+came_targets g g2 e w lost added none = record {
   seen = w.seen;
-  label = w.label;
   came = w.came;
   gone = w.gone;
+  relabelled = w.relabelled;
   lost = w.lost;
   added = w.added;
   nodes = λ n h. (came_parts g g2 e n w h).0;
   target_came = λ n h. h;
+  target_relabelled = λ n h. absurd (true≢false (sym h ∙ ap (λ (xs : List ℕ). has xs n) none));
   target_added = λ u v h. absurd (true≢false (sym h ∙ ap (λ (es : List (ℕ × ℕ)). has_pair es u v) added));
   target_lost = λ u v h live. absurd (true≢false (sym h ∙ ap (λ (es : List (ℕ × ℕ)). has_pair es u v) lost));
 }
@@ -92,11 +95,11 @@ own_keyed g g2 e f d i n w graph added came (number, own, below, here, key) = re
     same_some : (x y : ℕ) → Some x ≡ Some y → x ≡ y
     same_some x y e = cc
 
-came_moved : (g g2 : Graph) (e : EffectLists) (f : List KeyedQuotient) (d : List KeyedChanges) → AreEffects g g2 e → e.lost ≡ [] → e.added ≡ [] → AreLevelsBefore g g2 f
-    → AreLevelsDrafted e.came g2 f d → HaveMoved (has e.came) g g2 f d
-came_moved g g2 e f d w lost added before drafted = record {
+came_moved : (g g2 : Graph) (e : EffectLists) (f : List KeyedQuotient) (d : List KeyedChanges) → AreEffects g g2 e → e.lost ≡ [] → e.added ≡ [] → e.relabelled ≡ []
+    → AreLevelsBefore g g2 f → AreLevelsDrafted e.came g2 f d → HaveMoved (has e.came) g g2 f d
+came_moved g g2 e f d w lost added none before drafted = record {
   graph = before.graph_after;
-  differs = effects_differ g g2 (record e { targets = e.came }) (came_targets g g2 e w lost added);
+  differs = effects_differ g g2 (record e { targets = e.came }) (came_targets g g2 e w lost added none);
   bases = bases g f before.graph before.fits before.family;
   moving = levels_moving e.came (has e.came) g2 f d (λ n h. h) before.some drafted;
   within_keyed = record {
@@ -115,11 +118,21 @@ none_of : {X : Type 0} (xs : List X) → nat_eq (length xs) 0 ≡ true → xs �
 none_of [] h = refl
 none_of (x ∷ xs) h = absurd (let e = (Decides-eqb (length (x ∷ xs)) 0).0 h in omega (arith, e))
 
--- there is no target, or no edge comes or goes
-still_cases : (e : EffectLists) → keeps_keys e ≡ true → (e.targets ≡ []) ⊎ ((e.lost ≡ []) × (e.added ≡ []))
-still_cases e h = elim (or_cases (nat_eq (length e.targets) 0) (nat_eq (length e.lost) 0 && nat_eq (length e.added) 0) h) [
+-- there is no target, or no edge comes or goes and no node gets another label
+still_cases : (e : EffectLists) → keeps_keys e ≡ true → (e.targets ≡ []) ⊎ ((e.lost ≡ []) × (e.added ≡ []) × (e.relabelled ≡ []))
+still_cases e h = elim (or_cases (nat_eq (length e.targets) 0) ((nat_eq (length e.lost) 0 && nat_eq (length e.added) 0) && nat_eq (length e.relabelled) 0) h) [
   | inl none ↦ inl (none_of e.targets none)
-  | inr still ↦ (let both = and_parts (nat_eq (length e.lost) 0) (nat_eq (length e.added) 0) still in inr (none_of e.lost both.0, none_of e.added both.1))
+  | inr still ↦ (
+      let both = and_parts (nat_eq (length e.lost) 0 && nat_eq (length e.added) 0) (nat_eq (length e.relabelled) 0) still in
+      let edges = and_parts (nat_eq (length e.lost) 0) (nat_eq (length e.added) 0) both.0 in
+      inr (none_of e.lost edges.0, none_of e.added edges.1, none_of e.relabelled both.1))
+]
+
+-- nodes that are put into the blocks of their own numbers are targets
+pub lone_targets : (g g2 : Graph) (e : EffectLists) (n : ℕ) → AreEffects g g2 e → IsTrue (has (lone_nodes e) n) → has e.targets n ≡ true
+lone_targets g g2 e n w h = elim (or_cases (has e.came n) (has e.relabelled n) (sym (list_any-append (nat_eq n) e.came e.relabelled) ∙ h)) [
+  | inl came ↦ w.target_came n came
+  | inr other ↦ w.target_relabelled n other
 ]
 
 -- from no nodes no edges lead anywhere
@@ -131,12 +144,18 @@ none_near s targets (suc j) n none h = elim (within_cases s (has targets) j n h)
 ]
 
 pub still_moved : (g g2 : Graph) (e : EffectLists) (f : List KeyedQuotient) (d : List KeyedChanges) → AreEffects g g2 e → keeps_keys e ≡ true → AreLevelsBefore g g2 f
-    → AreLevelsDrafted e.came g2 f d → AreMoved (has e.targets) g2 f d
+    → AreLevelsDrafted (lone_nodes e) g2 f d → AreMoved (has e.targets) g2 f d
 still_moved g g2 e f d w still before drafted = record {
-  moving = levels_moving e.came (has e.targets) g2 f d w.target_came before.some drafted;
+  moving = levels_moving (lone_nodes e) (has e.targets) g2 f d (λ n h. lone_targets g g2 e n w h) before.some drafted;
   keyed = elim (still_cases e still) [
     | inl none ↦ record { each = λ i n h on. absurd (none_near (shape_of g2) e.targets (i + 1) n none on) }
-    | inr (lost, added) ↦ record { each = λ i n h on. keyed_at (has e.came) g g2 f d (came_moved g g2 e f d w lost added before drafted) i n h }
+    | inr (lost, added, none) ↦ record {
+      each = λ i n h on.
+          keyed_at (has e.came) g g2 f d
+          (came_moved g g2 e f d w lost added none before
+          (subst (λ (xs : List ℕ). AreLevelsDrafted xs g2 f d) (ap (λ (xs : List ℕ). e.came ++ xs) none ∙ append-nil e.came) drafted))
+          i n h;
+    }
   ];
 }
 
@@ -166,14 +185,14 @@ effects_moved g g2 e f d w before moved = record {
   some = before.some;
 }
 
--- The effects, at no more than twice the cost, and four times what a part of it costs at each level, are no more than eight times
--- the cost at each level.
-total_steps : (k part all effects old found new : ℕ) → part ≤ all → effects ≤ 2 * all → found ≤ old + effects → new ≤ found + 4 * (k + 1) * part → new ≤ old + 8 * (k + 1) * all
-total_steps k part all effects old found new less few start spent = (let more = mul-le-mul_left (4 * (k + 1)) less in omega (arith, few, start, spent, more))
+-- The effects, at no more than twice the cost, and what it takes to draft a part of it, are no more than eight times the cost at each
+-- level.
+total_steps : (k part all effects old found new : ℕ) → part ≤ all → effects ≤ 2 * all → found ≤ old + effects → new ≤ found + (6 * k + 4) * part → new ≤ old + 8 * (k + 1) * all
+total_steps k part all effects old found new less few start spent = (let more = mul-le-mul_left (6 * k + 4) less in omega (arith, few, start, spent, more))
 
 -- What is spent is within the bound of the change: first to find its effects, and then to move what some of its targets affect.
 pub change_steps : (a b : Pending) (listed : List ℕ) (k old found new : ℕ) → a ≡ b → IsGraph (graph_after a) → ((n : ℕ) → has listed n ≡ true → targets a.change a.before n ≡ true)
-    → found ≤ old + length a.change + 2 * weight (shape_of a.before) (is_gone a.before (graph_after a)) → new ≤ found + most_move_steps a (has listed) k
+    → found ≤ old + length a.change + 2 * weight (shape_of a.before) (is_gone a.before (graph_after a)) → new ≤ found + most_draft_steps a (has listed) k
     → new ≤ old + most_steps b.before b.change k
 change_steps a b listed k old found new same graph among start spent =
     let s = shape_of (graph_after a) in

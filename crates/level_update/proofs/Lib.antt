@@ -7,5 +7,6 @@ pub mod MovedDrafts
 pub mod Unchanged
 pub mod LoneBlocks
 pub mod EffectLevels
+pub mod RelabelledLevels
 pub mod EffectTargets
 pub mod JoinedNodes

@@ -47,7 +47,7 @@ key_of_first None number e = absurd (cc)
 key_of_first (Some numbers) number e = (numbers, refl)
 
 -- a node that is put into a block is among the nodes still
-partition_put : (s : Shape) (p p2 : List (Option ℕ)) (n b : ℕ) → IsPartition s p → IsNode s n → ((m : ℕ) → at p2 m ≡ cond (nat_eq m n) (Some b) (at p m)) → IsPartition s p2
+pub partition_put : (s : Shape) (p p2 : List (Option ℕ)) (n b : ℕ) → IsPartition s p → IsNode s n → ((m : ℕ) → at p2 m ≡ cond (nat_eq m n) (Some b) (at p m)) → IsPartition s p2
 partition_put s p p2 n b partition node moved = record {
   live = λ m h. elim (eqb_tells m n) [
     | inl e ↦ ap is_some (moved m ∙ ap (λ t. cond t (Some b) (at p m)) e.0)

@@ -28,8 +28,8 @@ level_most a targets i k nodes w l within =
 mul-le : (a b c : ℕ) → a ≤ b → a * c ≤ b * c
 mul-le a b c h = (let k = mul-le-mul_left c h in omega (arith, k))
 
--- A search and some levels, of which each costs three times as much, are no more than four times all levels and one more.
-total_most : (w k i before now : ℕ) → i ≤ k → now ≤ before + w + i * (3 * w) → now ≤ before + 4 * (k + 1) * w
+-- A search and some levels, of which each costs three times as much, are no more than a search and all levels.
+total_most : (w k i before now : ℕ) → i ≤ k → now ≤ before + w + i * (3 * w) → now ≤ before + (3 * k + 1) * w
 total_most w k i before now within cost = (let all = mul-le i k (3 * w) within in omega (arith, cost, all))
 
 -- what is spent is within the bound of all levels

@@ -1,9 +1,12 @@
 -- What is drafted at a level of a family for the effects of a change, whatever its steps.
-use Rattle.std.specs.Prelude.{⊤, ◌≡◌, ℕ, zero, suc, ◌<◌, ◌≤◌, ◌^◌, ◌&&◌, ◌||◌, nat_eq, Bool, List, [], ◌∷◌, length, Option, Some, None, IsTrue, IsFalse}
+use Rattle.std.specs.Prelude.{⊤, ◌≡◌, ℕ, zero, suc, ◌<◌, ◌≤◌, ◌^◌, ◌&&◌, ◌||◌, not, nat_eq, Bool, List, [], ◌∷◌, ◌++◌, length, Option, Some, None, IsTrue, IsFalse}
 use Rattle.std.specs.FinSet as set
 use Rattle.graph_spec.specs.Graphs.{Graph, IsGraph}
 use Rattle.graph_spec.specs.Shapes.{IsNode, shape_of}
 use Rattle.graph_spec.specs.Members.{at, has}
+use Rattle.label_graph.specs.GraphViews.{label_number}
+use Rattle.bisim_spec.specs.Partitions.{IsPartition}
+use Rattle.one_spec.specs.BlockLabels.{BlocksHaveLabelsBut}
 use Rattle.one_spec.specs.EdgeCounts.{AreEdgeCounts}
 use Rattle.graph_update.specs.PendingChanges.{Pending, graph_after}
 use Rattle.graph_effects.specs.Effects.{EffectLists, without_edges, with_edges}
@@ -61,8 +64,29 @@ pub record IsLevelOnWay (g2 h : Graph) (came gone : List ℕ) (f : List KeyedQuo
   pub own : (n : ℕ) → IsTrue (has came n) → HasOwnKey f d i n
   pub supports : AreEdgeCounts h (blocks_shown f d i) (support_shown f d i)
 
--- The level shows the graph g2, with nodes that have come in the blocks of their own numbers, and all others in the blocks in
--- which they were.
+-- the nodes that are put into the blocks of their own numbers: those that come, and those that get another label
+abbrev pub lone_nodes : EffectLists → List ℕ
+lone_nodes e = e.came ++ e.relabelled
+
+-- whether the node gets another label, and isn't among those that have been moved for it
+abbrev pub is_unmoved : EffectLists → List ℕ → ℕ → Bool
+is_unmoved e moved n = has e.relabelled n && not (has moved n)
+
+-- The level shows the graph g2, but blocks may have other labels than nodes that get another one and haven't been moved. Nodes that
+-- have come or been moved are in the blocks of their own numbers, and all others in the blocks in which they were.
+pub record IsLevelRelabelled (e : EffectLists) (moved : List ℕ) (g2 : Graph) (f : List KeyedQuotient) (d : List KeyedChanges) (i : ℕ) : Type 0 where
+  pub over : AreOver f d
+  pub partition : IsPartition (shape_of g2) (blocks_shown f d i)
+  pub block_labels : BlocksHaveLabelsBut (is_unmoved e moved) (blocks_shown f d i) (at (labels_shown f d i)) (label_number g2)
+  pub supports : AreEdgeCounts g2 (blocks_shown f d i) (support_shown f d i)
+  pub begin : KeysBegin f d i
+  pub stay : KeysStay (key_at (level_at f i).keys) (key_shown f d i)
+  pub labels : LabelsKept (level_at f i).quotient.blocks.labels (labels_shown f d i)
+  pub own : (n : ℕ) → IsTrue (has e.came n || has moved n) → HasOwnKey f d i n
+  pub far : (n : ℕ) → IsNode (shape_of g2) n → IsFalse (has e.came n || has moved n) → at (blocks_shown f d i) n ≡ at (blocks_at f i) n
+
+-- The level shows the graph g2, with these nodes in the blocks of their own numbers, and all others in the blocks in which they
+-- were.
 pub record IsLevelDrafted (came : List ℕ) (g2 : Graph) (f : List KeyedQuotient) (d : List KeyedChanges) (i : ℕ) : Type 0 where
   pub level : IsLevelOf g2 (blocks_shown f d i) (labels_shown f d i) (support_shown f d i)
   pub begin : KeysBegin f d i
@@ -92,17 +116,17 @@ HasNodesLeft a e f d i = IsLevelOnWay (graph_after a) (without_edges a.before e.
 abbrev pub HasEdgesRaised : Pending → EffectLists → List KeyedQuotient → List KeyedChanges → ℕ → Type 0
 HasEdgesRaised a e f d i = IsLevelOnWay (graph_after a) (with_edges (without_edges a.before e.lost) e.added) e.came e.gone f d i
 
--- Whether nodes keep the keys with which the effects are drafted: no edge comes or goes, or the graph is altered at none of its nodes.
+-- Whether nodes keep the keys with which the effects are drafted: no edge comes or goes and no node gets another label, or the graph
+-- is altered at none of its nodes.
 abbrev pub keeps_keys : EffectLists → Bool
-keeps_keys e = nat_eq (length e.targets) 0 || (nat_eq (length e.lost) 0 && nat_eq (length e.added) 0)
+keeps_keys e = nat_eq (length e.targets) 0 || ((nat_eq (length e.lost) 0 && nat_eq (length e.added) 0) && nat_eq (length e.relabelled) 0)
 
--- the node has come into a block of the level with this label, whose key is this number alone
+-- the node is in a block of the level with this label, whose key is this number alone
 pub record IsNodeJoined (f : List KeyedQuotient) (i n label number : ℕ) (d d2 : List KeyedChanges) : Type 0 where
   pub block : ℕ
   pub blocks : PutsNode n (Some block) (blocks_shown f d i) (blocks_shown f d2 i)
   pub has_block : ShowsBlock f i d d2 label (number ∷ []) block
   pub label_is : at (labels_shown f d2 i) block ≡ Some label
-  pub supports : (x y : ℕ) → support_shown f d2 i x y ≡ support_shown f d i x y
   pub over : AreOver f d2
 
 -- the node has no block at the level, and nothing else has changed

@@ -1,26 +1,29 @@
 // What the effects of a change make of each level.
-ghost use Rattle.std.specs.Prelude.{◌≡◌, ◌+◌, ◌<◌, ◌≤◌, [], ℕ, OnOk, length};
+ghost use Rattle.std.specs.Prelude.{◌≡◌, ◌+◌, ◌*◌, ◌<◌, ◌≤◌, [], ℕ, OnOk, length, sum_by};
 ghost use Rattle.graph_spec.specs.Members.{has};
 ghost use Rattle.graph_update.specs.PendingChanges.{graph_after};
 ghost use Rattle.graph_effects.specs.Effects.{AreEffects};
 ghost use Rattle.keyed_quotient.specs.Changes.{no_keyed_changes};
 ghost use Rattle.ak_family.specs.LevelDrafts.{changes_at, AreOver, AreSameBut, AreEmpty};
-ghost use Rattle.level_update.specs.LevelCosts.{most_move_steps};
+ghost use Rattle.level_update.specs.LevelCosts.{place_cost, most_draft_steps};
 ghost use Rattle.level_update.specs.MovedLevels.{AreMoved};
-ghost use Rattle.level_update.specs.LevelEffects.{AreLevelsBefore, IsDraftedBelow, IsLevelDrafted, AreLevelsDrafted, keeps_keys};
+ghost use Rattle.level_update.specs.LevelEffects.{AreLevelsBefore, IsDraftedBelow, IsLevelRelabelled, IsLevelDrafted, AreLevelsDrafted, lone_nodes, keeps_keys};
 
 use crate::counting::{lower_edges, raise_edges};
 use crate::joining::join_nodes;
 use crate::leaving::leave_nodes;
 use crate::moving::move_affected;
+use crate::relabelling::relabel_nodes;
 use ak_family::{AkDraft, AkFamily};
 use graph_effects::Effects;
 use graph_update::After;
 use px_base::{Memory, Steps};
+use quotient_moves::NodeNeighbours;
 use std::alloc::Global;
 use std::sync::ledger::Ledger;
 
-// Drafts the effects at a level, over which nothing is drafted yet: edges lead between blocks as nodes stand in them.
+// Drafts the nodes and edges that come and go at a level, over which nothing is drafted yet: edges lead between blocks as
+// nodes stand in them.
 fn draft_level(
     family: &AkFamily,
     draft: &mut AkDraft,
@@ -32,9 +35,9 @@ fn draft_level(
     requires effects { AreEffects after.now.before (graph_after after.now) effects.now }
     requires over { AreOver family.now draft.old }
     requires level { i < length family.now }
-    requires below { IsDraftedBelow effects.now.came (graph_after after.now) family.now draft.old i }
+    requires below { IsDraftedBelow (lone_nodes effects.now) (graph_after after.now) family.now draft.old i }
     requires none { changes_at draft.old i ≡ no_keyed_changes }
-    ensures drafted { OnOk result (IsLevelDrafted effects.now.came (graph_after after.now) family.now draft.new i) }
+    ensures drafted { OnOk result (IsLevelRelabelled effects.now [] (graph_after after.now) family.now draft.new i) }
     ensures over { OnOk result (AreOver family.now draft.new) }
     ensures others { AreSameBut i draft.old draft.new }
 {
@@ -45,23 +48,53 @@ fn draft_level(
     Ok(())
 }
 
+// Drafts all effects at a level: nodes that get another label are moved too.
+fn draft_whole<L: Ledger>(
+    family: &AkFamily,
+    draft: &mut AkDraft,
+    i: u32,
+    after: &After<'_>,
+    effects: &Effects,
+    neighbours: &mut NodeNeighbours,
+    steps: &mut Steps<L>,
+) -> Result<(), Memory>
+    requires before { AreLevelsBefore after.now.before (graph_after after.now) family.now }
+    requires effects { AreEffects after.now.before (graph_after after.now) effects.now }
+    requires over { AreOver family.now draft.old }
+    requires level { i < length family.now }
+    requires below { IsDraftedBelow (lone_nodes effects.now) (graph_after after.now) family.now draft.old i }
+    requires none { changes_at draft.old i ≡ no_keyed_changes }
+    ensures drafted { OnOk result (IsLevelDrafted (lone_nodes effects.now) (graph_after after.now) family.now draft.new i) }
+    ensures over { OnOk result (AreOver family.now draft.new) }
+    ensures others { AreSameBut i draft.old draft.new }
+    ensures cost { steps.new ≤ steps.old + sum_by (place_cost after.now) effects.now.relabelled }
+{
+    draft_level(family, draft, i, after, effects)?;
+    relabel_nodes(family, draft, i, after, effects, neighbours, steps)?;
+    Ok(())
+}
+
 // Drafts the effects of a change at each level. Each level then shows the graph after the change, with nodes in the
-// blocks in which they were, and those that come in the blocks of their own numbers alone. It reads no neighbours, so it
-// takes no step.
-fn draft_levels(
+// blocks in which they were, and those that come or get another label in the blocks of their own numbers alone. The
+// neighbours of those that get another label are read at each level.
+fn draft_levels<L: Ledger>(
+    alloc: Global,
     family: &AkFamily,
     draft: &mut AkDraft,
     after: &After<'_>,
     effects: &Effects,
+    steps: &mut Steps<L>,
 ) -> Result<(), Memory>
     requires before { AreLevelsBefore after.now.before (graph_after after.now) family.now }
     requires effects { AreEffects after.now.before (graph_after after.now) effects.now }
     requires over { AreOver family.now draft.old }
     requires empty { AreEmpty draft.old }
-    ensures drafted { OnOk result (AreLevelsDrafted effects.now.came (graph_after after.now) family.now draft.new) }
+    ensures drafted { OnOk result (AreLevelsDrafted (lone_nodes effects.now) (graph_after after.now) family.now draft.new) }
+    ensures cost { steps.new ≤ steps.old + length family.now * sum_by (place_cost after.now) effects.now.relabelled }
 {
+    let mut neighbours = NodeNeighbours::new(alloc);
     'levels: for i in 0..family.k() + 1 {
-        draft_level(family, draft, i, after, effects)?;
+        draft_whole(family, draft, i, after, effects, &mut neighbours, steps)?;
     }
     Ok(())
 }
@@ -70,12 +103,15 @@ fn draft_levels(
 fn keeps_keys(effects: &Effects) -> bool
     ensures { result ≡ keeps_keys effects.now }
 {
-    effects.targets().is_empty() || (effects.lost().is_empty() && effects.added().is_empty())
+    effects.targets().is_empty()
+        || ((effects.lost().is_empty() && effects.added().is_empty())
+            && effects.relabelled().is_empty())
 }
 
 /// Drafts what a change with these effects makes of a family: the effects at each level, and then the moves of the nodes
-/// that they affect. It takes steps for the moves alone, as `move_affected`. Where no edge comes or goes no node moves:
-/// one that comes is in the block of its own number alone.
+/// that they affect. It takes at most `(6 * k + 4) * w` steps, where `k` is the highest level, and `w` is what the change
+/// costs at the nodes within `k` edges of a target. Where no edge comes or goes and no node gets another label, no node
+/// moves: one that comes is in the block of its own number alone.
 pub(crate) fn draft_effects<L: Ledger>(
     alloc: Global,
     family: &AkFamily,
@@ -89,9 +125,11 @@ pub(crate) fn draft_effects<L: Ledger>(
     requires over { AreOver family.now draft.old }
     requires empty { AreEmpty draft.old }
     ensures moved { OnOk result (AreMoved (has effects.now.targets) (graph_after after.now) family.now draft.new) }
-    ensures cost { (k : ℕ) → length family.now ≡ k + 1 → steps.new ≤ steps.old + most_move_steps after.now (has effects.now.targets) k }
+    ensures cost { (k : ℕ) → length family.now ≡ k + 1 → steps.new ≤ steps.old + most_draft_steps after.now (has effects.now.targets) k }
 {
-    draft_levels(family, draft, after, effects)?;
+    // Called for its contract: there is a graph, so what is affected is among its nodes.
+    let _known = after.created();
+    draft_levels(alloc, family, draft, after, effects, steps)?;
     if keeps_keys(effects) {
         return Ok(());
     }

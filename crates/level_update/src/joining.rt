@@ -4,16 +4,16 @@ ghost use Rattle.graph_spec.specs.Members.{at, has};
 ghost use Rattle.graph_update.specs.PendingChanges.{graph_after};
 ghost use Rattle.graph_effects.specs.Effects.{AreEffects};
 ghost use Rattle.ak_family.specs.LevelDrafts.{blocks_shown, labels_shown, support_shown, key_shown, AreOver, AreSameBut, ShowsBlock};
-ghost use Rattle.level_update.specs.LevelEffects.{KeyHasLabel, own_number, AreLevelsBefore, IsDraftedBelow, IsLevelOnWay, IsNodeJoined};
+ghost use Rattle.level_update.specs.LevelEffects.{KeyHasLabel, own_number, lone_nodes, AreLevelsBefore, IsDraftedBelow, IsLevelOnWay, IsNodeJoined};
 
 use ak_family::{AkDraft, AkFamily};
 use graph_effects::Effects;
 use graph_update::After;
 use px_base::{Memory, NodeId};
 
-// The number with which the key of a node begins at a level: its label at the lowest one, and above it its block one
-// level below.
-fn first_number(family: &AkFamily, draft: &AkDraft, i: u32, n: NodeId, label: u32) -> u32
+/// The number with which the key of a node begins at a level: its label at the lowest one, and above it its block one
+/// level below.
+pub(crate) fn first_number(family: &AkFamily, draft: &AkDraft, i: u32, n: NodeId, label: u32) -> u32
     requires over { AreOver family.now draft.now }
     requires level { i < length family.now }
     requires some { IsSome (own_number family.now draft.now label n i) }
@@ -25,8 +25,8 @@ fn first_number(family: &AkFamily, draft: &AkDraft, i: u32, n: NodeId, label: u3
     family.shown(draft, i - 1, n).unwrap()
 }
 
-// The block of a level that has the number alone as its key. It is a further one where no block has the key.
-fn lone_block(
+/// The block of a level that has the number alone as its key. It is a further one where no block has the key.
+pub(crate) fn lone_block(
     family: &AkFamily,
     draft: &mut AkDraft,
     i: u32,
@@ -62,6 +62,7 @@ fn join_node(
     requires small { n < 2 ^ 31 }
     requires labelled { KeyHasLabel (key_shown family.now draft.old i) (labels_shown family.now draft.old i) (number ∷ []) label }
     ensures joined { OnOk result (IsNodeJoined family.now i n label number draft.old draft.new) }
+    ensures supports { OnOk result ((x y : ℕ) → support_shown family.now draft.new i x y ≡ support_shown family.now draft.old i x y) }
     ensures others { AreSameBut i draft.old draft.new }
 {
     let b = lone_block(family, draft, i, label, number)?;
@@ -80,7 +81,7 @@ pub(crate) fn join_nodes(
 ) -> Result<(), Memory>
     requires before { AreLevelsBefore after.now.before (graph_after after.now) family.now }
     requires effects { AreEffects after.now.before (graph_after after.now) effects.now }
-    requires below { IsDraftedBelow effects.now.came (graph_after after.now) family.now draft.old i }
+    requires below { IsDraftedBelow (lone_nodes effects.now) (graph_after after.now) family.now draft.old i }
     requires level { i < length family.now }
     requires start { IsLevelOnWay (graph_after after.now) after.now.before [] [] family.now draft.old i }
     ensures joined { OnOk result (IsLevelOnWay (graph_after after.now) after.now.before effects.now.came [] family.now draft.new i) }

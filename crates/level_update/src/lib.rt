@@ -11,5 +11,6 @@ mod leaving;
 mod level;
 mod moving;
 mod placing;
+mod relabelling;
 
 pub use drafting::draft_change;

@@ -20,7 +20,7 @@ use std::sync::ledger::Ledger;
 /// those within `i` edges of a target, each to the block of its key there, which is a further block where no block has
 /// the key. The edges of the change are drafted at each level already, and level 0 is done.
 ///
-/// It takes at most `4 * (k + 1) * w` steps, where `k` is the highest level, and `w` is what the change costs at the nodes
+/// It takes at most `(3 * k + 1) * w` steps, where `k` is the highest level, and `w` is what the change costs at the nodes
 /// within `k` edges of a target. Expected O(k (1 + w log w)), since the parents' blocks in a key are sorted; it takes the
 /// memory of the affected nodes and of what is drafted. After `Memory` the draft must be dropped.
 pub(crate) fn move_affected<L: Ledger>(

@@ -7,7 +7,7 @@ ghost use Rattle.bisim_spec.specs.Partitions.{IsPartition};
 ghost use Rattle.one_spec.specs.EdgeCounts.{AreEdgeCounts};
 ghost use Rattle.graph_update.specs.PendingChanges.{graph_after};
 ghost use Rattle.quotient_moves.specs.NeighbourCosts.{parents_cost, children_cost};
-ghost use Rattle.ak_family.specs.LevelDrafts.{blocks_shown, labels_shown, support_shown, AreOver};
+ghost use Rattle.ak_family.specs.LevelDrafts.{blocks_shown, labels_shown, support_shown, AreOver, AreSameBut};
 ghost use Rattle.level_update.specs.Placed.{AreTwoLevels, HasMoved, ArePlaced};
 ghost use Rattle.level_update.specs.LevelCosts.{place_cost};
 
@@ -19,8 +19,8 @@ use px_base::{Memory, NodeId, Steps};
 use quotient_moves::{NodeNeighbours, read_parents};
 use std::sync::ledger::Ledger;
 
-// Moves a node to a block of a level, where it isn't there yet.
-fn move_to<L: Ledger>(
+/// Moves a node to a block of a level, where it isn't there yet. Its parents and its children are read once.
+pub(crate) fn move_to<L: Ledger>(
     family: &AkFamily,
     draft: &mut AkDraft,
     after: &After<'_>,
@@ -36,6 +36,7 @@ fn move_to<L: Ledger>(
     requires block { IsSome (at (labels_shown family.now draft.old to.level) to.block) }
     requires supports { AreEdgeCounts (graph_after after.now) (blocks_shown family.now draft.old to.level) (support_shown family.now draft.old to.level) }
     ensures moved { OnOk result (HasMoved (graph_after after.now) family.now draft.old draft.new to.level n to.block) }
+    ensures others { AreSameBut to.level draft.old draft.new }
     ensures cost { steps.new ≤ steps.old + parents_cost after.now n + children_cost after.now n }
 {
     if family.shown(draft, to.level, n) == Some(to.block) {

@@ -13,7 +13,7 @@ use Rattle.bisim_spec.proofs.Ranks.{acyclic_full}
 use Rattle.bisim_spec.proofs.Reached.{reach_step}
 use Rattle.bisim_spec.proofs.Together.{together_sym, together_some}
 use Rattle.bisim_spec.proofs.Outside.{DiffersAt, SameOutside, IsOut, off_target, outside_reach}
-use Rattle.bisim_spec.specs.Targets.{KeepsBlocks}
+use Rattle.bisim_spec.specs.KeptBlocks.{KeepsBlocks}
 use Rattle.one_spec.specs.Merges.{Merges, AreMergeCandidates}
 use Rattle.bisim_spec.proofs.Changed.{live_before}
 use Rattle.one_spec.proofs.MergedPairs.{merges_stable, outside_merges}

@@ -15,7 +15,7 @@ use Rattle.bisim_spec.specs.Supports.{Adjacent}
 use Rattle.bisim_spec.proofs.Ranks.{acyclic_full}
 use Rattle.bisim_spec.proofs.Stable.{stable_parents}
 use Rattle.bisim_spec.proofs.Together.{together_at}
-use Rattle.bisim_spec.specs.Targets.{HasOther}
+use Rattle.bisim_spec.specs.KeptBlocks.{HasOther}
 use Rattle.change_spec.specs.Steps.{Step, after}
 use Rattle.change_spec.specs.NextOne.{OneStep}
 use Rattle.one_spec.proofs.UnchangedTarget.{HasTwin, stable_twin, minimal_twin}

@@ -3,7 +3,7 @@ use Rattle.std.proofs.Common.{◌≡◌, ℕ, ◌+◌, ◌*◌, ◌≤◌, List,
 use Rattle.std.proofs.lemmas.List.Sums.{sum_by-cons}
 use Rattle.std.proofs.Math.Nat.{mul-le-mul_left}
 use Rattle.graph_spec.specs.Shapes.{IsNode, shape_of}
-use Rattle.bisim_spec.proofs.ListedTargets.{one_once, only_one}
+use Rattle.bisim_spec.proofs.SingleLists.{one_once, only_one}
 use Rattle.change_spec.specs.Costs.{cost}
 use Rattle.graph_update.specs.PendingChanges.{Pending, graph_after}
 use Rattle.one_split.specs.SplitCosts.{HasCost, going, move_cost}

@@ -12,7 +12,7 @@ use Rattle.graph_spec.proofs.GraphLaws.{is_shape, edge_with, edge_without}
 use Rattle.label_graph.specs.GraphViews.{label_number}
 use Rattle.bisim_spec.specs.Partitions.{IsPartition}
 use Rattle.bisim_spec.specs.Supports.{edges_between}
-use Rattle.bisim_spec.specs.Targets.{HasOther}
+use Rattle.bisim_spec.specs.KeptBlocks.{HasOther}
 use Rattle.change_spec.specs.NextOne.{OneStep}
 use Rattle.bisim_spec.specs.IndexGraphs.{support_at}
 use Rattle.bisim_spec.specs.Fits.{FitsOne}
@@ -26,6 +26,7 @@ use Rattle.quotient_draft.specs.Basis.{IsOver}
 use Rattle.one_spec.specs.BlockLabels.{BlocksHaveLabels}
 use Rattle.one_spec.specs.EdgeCounts.{AreEdgeCounts}
 use Rattle.one_spec.proofs.UnchangedPartition.{twin_link, twin_unlink, one_step_still, supported_other}
+use Rattle.graph_effects.proofs.Relabelled.{not_relabelled}
 use Rattle.one_update.specs.OneDrafts.{ShowsChange, IsDrafted, AreSupportsAlone}
 use Rattle.one_update.proofs.Bases.{block_labels_texts, base_texts}
 
@@ -93,7 +94,7 @@ changed_link g u v a b q d graph absent fits over alone ends r =
       over = over;
       partition = record { live = partition.live; only = partition.only };
       keeps = record { kept = λ n h k. at_same q d alone n };
-      block_labels = record { is = block_labels.is };
+      block_labels = record { is = λ n b off here. block_labels.is n b here };
       supports = supports_linked g u v a b q d absent fits alone ends r;
     }
 
@@ -106,7 +107,7 @@ changed_unlink g u v a b q d graph present fits over alone ends r =
       over = over;
       partition = record { live = partition.live; only = partition.only };
       keeps = record { kept = λ n h k. at_same q d alone n };
-      block_labels = record { is = block_labels.is };
+      block_labels = record { is = λ n b off here. block_labels.is n b here };
       supports = supports_unlinked g u v a b q d present fits alone ends r;
     }
 
@@ -126,7 +127,7 @@ still_link g u v q d graph graph2 fits alone other changed = record {
   step = subst (OneStep g q.blocks.block_of (link u v ∷ []) (with_edge g u v)) (sym (blocks_same q d alone))
       (one_step_still g q.blocks.block_of (link u v ∷ []) u v other.parent (is_shape g graph) (is_shape (with_edge g u v) graph2) (twin_link g u v q.blocks.block_of other)
       fits.index.stable fits.index.minimal);
-  block_labels = changed.block_labels;
+  block_labels = record { is = λ n b here. changed.block_labels.is n b (not_relabelled g (with_edge g u v) n refl) here };
   supports = changed.supports;
 }
 
@@ -137,7 +138,7 @@ still_unlink g u v q d graph graph2 fits alone other changed = record {
   step = subst (OneStep g q.blocks.block_of (unlink u v ∷ []) (without_edge g u v)) (sym (blocks_same q d alone))
       (one_step_still g q.blocks.block_of (unlink u v ∷ []) u v other.parent (is_shape g graph) (is_shape (without_edge g u v) graph2) (twin_unlink g u v q.blocks.block_of other)
       fits.index.stable fits.index.minimal);
-  block_labels = changed.block_labels;
+  block_labels = record { is = λ n b here. changed.block_labels.is n b (not_relabelled g (without_edge g u v) n refl) here };
   supports = changed.supports;
 }
 

@@ -178,6 +178,10 @@ index_done g c e q d w graph base way = record {
   over = way.over;
   partition = moved_partition g (after c g) e q.blocks.block_of (shown_blocks q d) (at (shown_labels q d)) w base.partition way.nodes;
   keeps = record { kept = λ n old new. way.nodes.others n (live_was g (after c g) e n w old) (live_stayed g (after c g) e n w new) };
-  block_labels = moved_named g (after c g) e q.blocks.block_of (shown_blocks q d) (at q.blocks.labels) (at (shown_labels q d)) w graph base.partition base.named way.labels way.nodes;
+  block_labels = record {
+    is = λ n b off here.
+        (moved_named g (after c g) e q.blocks.block_of (shown_blocks q d) (at q.blocks.labels) (at (shown_labels q d)) w graph base.partition base.named way.labels way.nodes).is n b
+        (w.relabelled.members n ∙ off) here;
+  };
   supports = counts_after g (after c g) e (shown_blocks q d) (shown_support q d) w way.supports;
 }

@@ -10,10 +10,10 @@ use Rattle.graph_spec.specs.Changes.{with_edge, without_edge}
 use Rattle.graph_spec.specs.Members.{Lists, has, at, is_this}
 use Rattle.graph_spec.specs.Shapes.{shape_of}
 use Rattle.graph_spec.proofs.GraphLaws.{is_shape}
-use Rattle.bisim_spec.specs.Targets.{HasOther}
+use Rattle.bisim_spec.specs.KeptBlocks.{HasOther}
 use Rattle.bisim_spec.specs.IndexGraphs.{support_at}
 use Rattle.bisim_spec.specs.Weights.{parent_count}
-use Rattle.bisim_spec.proofs.ListedTargets.{one_once}
+use Rattle.bisim_spec.proofs.SingleLists.{one_once}
 use Rattle.change_spec.specs.Steps.{Step, link, unlink, after}
 use Rattle.change_spec.specs.Places.{CanMakeAll}
 use Rattle.change_spec.specs.Lost.{lost_onto}

@@ -22,6 +22,7 @@ use Rattle.change_spec.proofs.LostEdges.{lost_onto_few}
 use Rattle.change_spec.proofs.StepDiffers.{differs_after}
 use Rattle.graph_effects.specs.Effects.{EffectLists, AreEffects}
 use Rattle.graph_effects.proofs.EffectLaws.{effects_differ}
+use Rattle.graph_effects.proofs.Relabelled.{not_relabelled}
 use Rattle.bisim_spec.specs.Fits.{FitsOne}
 use Rattle.bisim_spec.proofs.Changed.{stable_but_changed}
 use Rattle.bisim_spec.proofs.Bisimilar.{is_some_at}
@@ -48,8 +49,14 @@ stable_there g c found q d graph graph2 fits are changed =
     stable_but_changed (has found) (shape_of g) (shape_of (after c g)) q.blocks.block_of (shown_blocks q d) (is_shape g graph) (is_shape (after c g) graph2) are.differs changed.keeps
     fits.index.stable changed.partition
 
-pub block_labels_but : (off : ℕ → Bool) (p : List (Option ℕ)) (labels node_labels : ℕ → Option ℕ) → BlocksHaveLabels p labels node_labels → BlocksHaveLabelsBut off p labels node_labels
-block_labels_but off p labels node_labels block_labels = record { is = λ n b h e. block_labels.is n b e }
+-- blocks have the labels of their members except at the targets, which all nodes are that get another label
+pub labels_but_found : (g : Graph) (c : List Step) (found : List ℕ) (q : Quotient) (d : Drafted) → AreFoundTargets g c found → ShowsChange g c q d
+    → BlocksHaveLabelsBut (has found) (shown_blocks q d) (at (shown_labels q d)) (label_number (after c g))
+labels_but_found g c found q d are changed = record {
+  is = λ n b off here.
+      let node = changed.partition.only n (is_some_at (at (shown_blocks q d) n) b here) in
+      changed.block_labels.is n b (not_relabelled g (after c g) n (are.differs.label n node off)) here;
+}
 
 -- where all targets are listed, the graphs differ at these alone
 pub all_found : (g : Graph) (c : List Step) (list : List ℕ) → AreTargets g c list → AreFoundTargets g c list

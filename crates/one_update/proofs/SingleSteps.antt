@@ -14,6 +14,10 @@ node_moves c t g block is keeps = subst (λ (d : List Step). KeepsParents d g bl
 pub drop_moves : (c : List Step) (u : ℕ) (g : Graph) (block : List (Option ℕ)) → c ≡ drop u ∷ [] → KeepsParents c g block → ⊥
 drop_moves c u g block is keeps = subst (λ (d : List Step). KeepsParents d g block) is keeps
 
+-- nor one that gives a label
+pub relabel_moves : (c : List Step) (u : ℕ) (t : List ℕ) (g : Graph) (block : List (Option ℕ)) → c ≡ relabel u t ∷ [] → KeepsParents c g block → ⊥
+relabel_moves c u t g block is keeps = subst (λ (d : List Step). KeepsParents d g block) is keeps
+
 is_link : Step → Bool
 is_link (node t) = false
 is_link (link u v) = true
@@ -40,6 +44,10 @@ unlink_no_link c x y u v is e = no_link c (unlink x y) u v refl is e
 pub drop_no_link : (c : List Step) (x u v : ℕ) → c ≡ drop x ∷ [] → c ≡ link u v ∷ [] → ⊥
 unfolding is_link
 drop_no_link c x u v is e = no_link c (drop x) u v refl is e
+
+pub relabel_no_link : (c : List Step) (x : ℕ) (t : List ℕ) (u v : ℕ) → c ≡ relabel x t ∷ [] → c ≡ link u v ∷ [] → ⊥
+unfolding is_link
+relabel_no_link c x t u v is e = no_link c (relabel x t) u v refl is e
 
 -- the ends of a step that is a link
 ends_of : Step → ℕ × ℕ

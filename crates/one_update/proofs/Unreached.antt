@@ -10,7 +10,7 @@ use Rattle.graph_spec.specs.Shapes.{Shape, IsNode, shape_of}
 use Rattle.graph_spec.proofs.GraphLaws.{is_shape}
 use Rattle.bisim_spec.specs.Stability.{Stable, Minimal}
 use Rattle.bisim_spec.specs.Reach.{reach}
-use Rattle.bisim_spec.specs.Targets.{KeepsBlocks}
+use Rattle.bisim_spec.specs.KeptBlocks.{KeepsBlocks}
 use Rattle.change_spec.specs.Altered.{targets}
 use Rattle.change_spec.specs.Costs.{cost}
 use Rattle.bisim_spec.proofs.Bisimilar.{is_some_at}

@@ -12,7 +12,7 @@ use Rattle.bisim_spec.specs.Partitions.{IsPartition, Together}
 use Rattle.bisim_spec.specs.Stability.{Stable, StableBut, Minimal}
 use Rattle.bisim_spec.specs.Reach.{reach}
 use Rattle.bisim_spec.specs.Weights.{size_of}
-use Rattle.bisim_spec.specs.Targets.{KeepsBlocks}
+use Rattle.bisim_spec.specs.KeptBlocks.{KeepsBlocks}
 use Rattle.bisim_spec.proofs.Outside.{DiffersAt}
 use Rattle.change_spec.specs.Altered.{targets}
 use Rattle.change_spec.specs.Costs.{cost}
@@ -21,6 +21,7 @@ use Rattle.bisim_spec.specs.IndexGraphs.{View, support_at}
 use Rattle.bisim_spec.specs.Fits.{FitsOne}
 use Rattle.graph_steps.specs.NewChanges.{IsNew}
 use Rattle.graph_update.specs.PendingChanges.{Pending, graph_after}
+use Rattle.graph_effects.specs.Effects.{is_relabelled}
 use Rattle.quotient.specs.Quotients.{Quotient, view_of}
 use Rattle.quotient_draft.specs.Drafts.{Drafted, shown_blocks, shown_labels, shown_support}
 use Rattle.quotient_draft.specs.Basis.{IsOver}
@@ -28,12 +29,12 @@ use Rattle.one_spec.specs.BlockLabels.{BlocksHaveLabels, BlocksHaveLabelsBut}
 use Rattle.one_spec.specs.EdgeCounts.{AreEdgeCounts}
 
 -- The draft shows the graph after the change, with nodes in the blocks in which they were: a new node has some block.
--- The partition may be unstable at the targets.
+-- The partition may be unstable at the targets, and a block may have another label than a node that gets another one.
 pub record ShowsChange (g : Graph) (c : List Step) (q : Quotient) (d : Drafted) : Type 0 where
   pub over : IsOver q.blocks.block_of q.blocks.labels d
   pub partition : IsPartition (shape_of (after c g)) (shown_blocks q d)
   pub keeps : KeepsBlocks (shape_of g) (shape_of (after c g)) q.blocks.block_of (shown_blocks q d)
-  pub block_labels : BlocksHaveLabels (shown_blocks q d) (at (shown_labels q d)) (label_number (after c g))
+  pub block_labels : BlocksHaveLabelsBut (is_relabelled g (after c g)) (shown_blocks q d) (at (shown_labels q d)) (label_number (after c g))
   pub supports : AreEdgeCounts (after c g) (shown_blocks q d) (shown_support q d)
 
 -- the draft shows the next partition, with the labels of members and the numbers of edges

@@ -158,6 +158,7 @@ fn draft_single<L: Ledger>(
         Step::Link(u, v) => add_edge(alloc, index, draft, after, *u, *v, steps),
         Step::Unlink(u, v) => drop_edge(alloc, index, draft, after, *u, *v, steps),
         Step::Drop(_) => draft_steps(alloc, index, draft, graph, change, after, steps),
+        Step::Relabel(_, _) => draft_steps(alloc, index, draft, graph, change, after, steps),
     }
 }
 

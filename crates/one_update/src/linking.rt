@@ -6,7 +6,7 @@ ghost use Rattle.change_spec.specs.Steps.{link, unlink};
 ghost use Rattle.change_spec.specs.Lost.{lost_onto};
 ghost use Rattle.graph_spec.specs.Members.{at, is_this};
 ghost use Rattle.graph_spec.specs.Shapes.{shape_of};
-ghost use Rattle.bisim_spec.specs.Targets.{HasOther};
+ghost use Rattle.bisim_spec.specs.KeptBlocks.{HasOther};
 ghost use Rattle.bisim_spec.specs.IndexGraphs.{support_at};
 ghost use Rattle.bisim_spec.specs.Weights.{parent_count};
 ghost use Rattle.graph_update.specs.PendingChanges.{graph_after};

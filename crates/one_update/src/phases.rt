@@ -11,34 +11,34 @@ use crate::resettling::add_blocks;
 use affected_nodes::reached_nodes;
 use graph_update::After;
 use one_merge::ParentlessBlocks;
-use px_base::{Memory, NodeId, Steps};
+use px_base::{Bits, Memory, NodeId, Steps};
 use quotient::Summary;
 use quotient_draft::Draft;
 use std::alloc::Global;
 use std::sync::ledger::Ledger;
 
 /// Splits blocks in the draft until the partition shown is stable on the graph after the change, where before it was
-/// stable except perhaps at the targets of the change, which are listed each once. A target's block may have another label
-/// than the target. Each block that is shown then lies within one that was shown before. Only what the targets reach is
-/// read and moved. Where the base was
-/// stable and no two of its blocks could be merged, and the nodes were in its blocks, it leaves what `merge` requires.
+/// stable except perhaps at the targets of the change, which are the members of the set. A target's block may have another
+/// label than the target. Each block that is shown then lies within one that was shown before. Only what the targets reach
+/// is read and moved. Where the base was stable and no two of its blocks could be merged, and the nodes were in its
+/// blocks, it leaves what `merge` requires.
 ///
 /// It takes at most `4 * (r + 1) * w` steps, where the targets reach `r` nodes, and `w` is what the change costs there: one
 /// for each of them, for each parent and for each child, one for each step of the change, and one for each node that goes,
 /// for each of its parents and for each of its children. After `Memory`, which also comes past 2^31 blocks, the
 /// draft must be cleared before it is used again.
 ///
-/// Expected O((r + 1) w log w) at most; it takes O(w) memory.
+/// Expected O(a + (r + 1) w log w) at most for a set of numbers below a; it takes O(w) memory.
 pub fn split<L: Ledger>(
     alloc: Global,
     base: &Summary,
     draft: &mut Draft,
     after: &After<'_>,
-    targets: &[NodeId],
+    targets: &Bits,
     steps: &mut Steps<L>,
 ) -> Result<(), Memory>
-    requires targets { AreTargets after.now.before after.now.change targets.now }
-    requires shown { ShowsStableBut (graph_after after.now) targets.now base.now draft.old }
+    requires targets { AreTargets after.now.before after.now.change targets.now.members }
+    requires shown { ShowsStableBut (graph_after after.now) targets.now.members base.now draft.old }
     ensures shown { OnOk result (ShowsStable (graph_after after.now) base.now draft.new) }
     ensures within { OnOk result (IsRefinement (shown_blocks base.now draft.old) (shown_blocks base.now draft.new)) }
     ensures same { OnOk result (SameBut (shown_blocks base.now draft.old) (shown_blocks base.now draft.new) (reached_after after.now)) }
@@ -47,8 +47,9 @@ pub fn split<L: Ledger>(
 {
     // Called for its contract: there is a graph, so that what is reached is closed under edges.
     let _known = after.created();
+    let targets = targets.list(alloc)?;
     let mut made = Vec::new(alloc);
-    one_split::split(alloc, base, draft, after, targets, &mut made, steps)?;
+    one_split::split(alloc, base, draft, after, &targets, &mut made, steps)?;
     Ok(())
 }
 
@@ -62,17 +63,17 @@ pub fn split<L: Ledger>(
 /// for each of its parents and for each of its children. After `Memory` the draft must be cleared before it is used
 /// again.
 ///
-/// Expected O(w + b) to find the blocks, with b blocks, and then what `one_merge::merge` takes from these on. It takes O(w)
+/// Expected O(a + w + b) to find the blocks, with b blocks, for a set of numbers below a, and then what `one_merge::merge` takes from these on. It takes O(w)
 /// memory, and what is merged.
 pub fn merge<L: Ledger>(
     alloc: Global,
     base: &Summary,
     draft: &mut Draft,
     after: &After<'_>,
-    targets: &[NodeId],
+    targets: &Bits,
     steps: &mut Steps<L>,
 ) -> Result<(), Memory>
-    requires targets { AreTargets after.now.before after.now.change targets.now }
+    requires targets { AreTargets after.now.before after.now.change targets.now.members }
     requires shown { ShowsStable (graph_after after.now) base.now draft.old }
     requires split { ShowsUnreached after.now base.now draft.old }
     ensures shown { OnOk result (ShowsStable (graph_after after.now) base.now draft.new) }
@@ -82,7 +83,8 @@ pub fn merge<L: Ledger>(
 {
     // Called for its contract: there is a graph, and it has few edges.
     let _known = after.created();
-    let nodes = reached_nodes(alloc, after, targets, steps)?;
+    let targets = targets.list(alloc)?;
+    let nodes = reached_nodes(alloc, after, &targets, steps)?;
     let mut blocks = Vec::new(alloc);
     add_blocks(base, draft, &nodes, &mut blocks)?;
     let parentless = ParentlessBlocks::of(alloc, base)?;

@@ -1,6 +1,6 @@
 // Two chains that are alike, until an edge leads to the second from a single node, with a third chain behind that node
 // and without.
-ghost use Rattle.std.specs.Prelude.{◌≡◌, ◌∷◌, [], ◌<◌};
+ghost use Rattle.std.specs.Prelude.{◌≡◌, ◌∷◌, [], ◌<◌, ◌^◌, IfOk};
 ghost use Rattle.change_spec.specs.Steps.{link};
 ghost use Rattle.bisim_spec.specs.Fits.{FitsOne};
 ghost use Rattle.graph_steps.specs.NewChanges.{IsNew};
@@ -15,7 +15,7 @@ use graph_steps::{Change, Step, Verdict, judge};
 use graph_update::After;
 use label_graph::Graph;
 use one_index::OneIndex;
-use px_base::{Limits, Memory, NodeId, Steps};
+use px_base::{Bits, Limits, Memory, NodeId, Steps};
 use quotient::Summary;
 use quotient_draft::Draft;
 use std::alloc::Global;
@@ -88,6 +88,16 @@ fn is_chain(base: &Summary, draft: &Draft) -> bool
 // For each node the least one that is together with it: before the split, behind it, and behind the merge.
 type Firsts<'a> = [&'a [NodeId]; 3];
 
+// The set of one number.
+fn just(alloc: Global, n: NodeId) -> Result<Bits, Memory>
+    requires small { n < 2 ^ 30 }
+    ensures { IfOk result (λ set. set.members ≡ n ∷ []) }
+{
+    let mut set = Bits::new(alloc, n + 1)?;
+    set.insert(n);
+    Ok(set)
+}
+
 // Splits and merges for an edge that comes, and tells whether the blocks shown are these.
 fn are_parted<L: Ledger>(
     alloc: Global,
@@ -101,12 +111,14 @@ fn are_parted<L: Ledger>(
     requires before { IsBefore after.now base.now }
     requires empty { draft.old ≡ no_changes }
     requires links { after.now.change ≡ link edge.0 edge.1 ∷ [] }
+    requires small { edge.1 < 2 ^ 30 }
 {
+    let targets = just(alloc, edge.1)?;
     draft_link(base, draft, after, edge.0, edge.1)?;
     let before = is_shown(base, draft, firsts[0]);
-    split(alloc, base, draft, after, &[edge.1], steps)?;
+    split(alloc, base, draft, after, &targets, steps)?;
     let parted = is_shown(base, draft, firsts[1]);
-    merge(alloc, base, draft, after, &[edge.1], steps)?;
+    merge(alloc, base, draft, after, &targets, steps)?;
     let merged = is_shown(base, draft, firsts[2]);
     Ok(before && parted && merged && is_chain(base, draft))
 }

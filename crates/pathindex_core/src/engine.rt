@@ -123,9 +123,9 @@ impl<B: PathIndex> Engine<B> {
 
     /// Makes a change in the graph and in each index, and says which numbers its new nodes got. A change has up to 1,024
     /// steps, and is accepted or refused as one. `Refused` comes exactly if it is refused within the engine's limits,
-    /// memory or not. An error leaves all as it was. So does a change of links alone whose edges are there, which takes no
-    /// memory. Each other change takes all its memory before the graph or an index changes, and the partition of the
-    /// 1-index, if it is kept, moves by one step (Yi, He, Stanoi and Yang 2004).
+    /// memory or not. An error leaves all as it was. So does a change that only links edges which are there and gives nodes
+    /// labels which they have; it takes no memory. Each other change takes all its memory before the graph or an index
+    /// changes, and the partition of the 1-index, if it is kept, moves by one step (Yi, He, Stanoi and Yang 2004).
     ///
     /// O(i) for i indexes, and what the change takes in the graph and `prepare` and `commit` in each index. How much
     /// that is depends on what the change reaches, and not on the size of the graph, except where a table moves as it

@@ -1,9 +1,9 @@
 // A set of small numbers.
-ghost use Rattle.std.specs.Prelude.{◌≡◌, ℕ, ◌<◌, ◌≤◌, ◌^◌, ◌&&◌, ◌||◌, not, nat_eq, nat_le, true, false, [], length, filter, slice_get, IfOk, MatchOption};
+ghost use Rattle.std.specs.Prelude.{◌≡◌, ℕ, ◌<◌, ◌≤◌, ◌^◌, ◌&&◌, ◌||◌, ◌++◌, ◌∷◌, not, nat_eq, nat_le, true, false, [], length, filter, slice_get, IfOk, OnOk, MatchOption, if◌then◌else◌};
 ghost use Rattle.std.specs.List.{position};
 ghost use Rattle.std.specs.List.Sorted.{IsStrictlyIncreasing};
 ghost use Rattle.graph_spec.specs.Members.{has};
-ghost use Rattle.px_base.specs.BitSets.{IsNext};
+ghost use Rattle.px_base.specs.BitSets.{IsNext, places_from};
 
 use crate::Memory;
 use std::alloc::Global;
@@ -86,6 +86,13 @@ impl Bits {
         }
     }
 
+    /// The members, rising. O(size); it takes 4 bytes for each member, amortized.
+    pub fn list(&self, alloc: Global) -> Result<Vec<u32>, Memory>
+        ensures { IfOk result (λ list. list.items ≡ self.now.members) }
+    {
+        places(alloc, &self.flags)
+    }
+
     /// Makes `n` a member. O(1), no memory.
     pub fn insert(&mut self, n: u32)
         requires { n < self.old.size }
@@ -120,4 +127,26 @@ fn first_set(flags: &[bool]) -> Option<usize>
     ensures { result ≡ position (λ flag. flag) flags.now }
 {
     flags.iter().position(|flag| *flag)
+}
+
+/// Puts the number behind the others, where it is wanted.
+fn push_if(list: &mut Vec<u32>, n: u32, wanted: bool) -> Result<(), Memory>
+    ensures { OnOk result (list.new.items ≡ list.old.items ++ (if wanted then n ∷ [] else [])) }
+{
+    if wanted {
+        list.push(n)?;
+    }
+    Ok(())
+}
+
+/// The places of the flags that are set.
+fn places(alloc: Global, flags: &[bool]) -> Result<Vec<u32>, Memory>
+    requires few { length flags.now < 2 ^ 32 }
+    ensures { IfOk result (λ list. list.items ≡ places_from 0 flags.now) }
+{
+    let mut list = Vec::new(alloc);
+    for i in 0..flags.len() {
+        push_if(&mut list, i as u32, flags[i])?;
+    }
+    Ok(list)
 }

@@ -32,11 +32,10 @@ fn refusals_have_words_and_limits_numbers(rt: HostRuntime) {
     let words = [
         Refusal::NoNode.word(),
         Refusal::NoEdge.word(),
-        Refusal::InUse.word(),
         Refusal::Limit.word(),
         Refusal::NoIndex.word(),
     ];
-    assert!(rt; words == ["no-node", "no-edge", "in-use", "limit", "no-index"]);
+    assert!(rt; words == ["no-node", "no-edge", "limit", "no-index"]);
     let limits = Limits::program();
     let graph = (limits.nodes, limits.edges, limits.labels);
     assert!(rt; graph == (2097152, 4194304, 1048576));

@@ -10,7 +10,7 @@ use Rattle.graph_spec.specs.declared.refusal.Refusal.TheVariants.{Limit}
 use Rattle.graph_spec.specs.Graphs.{Graph}
 use Rattle.change_spec.specs.Steps.{Step, node, link, unlink, drop, relabel, apply, MOST_STEPS}
 use Rattle.script_read.specs.Commands.{Command, change, begin, end, path, branch, why, check, extents, sizes, forget, IsQuiet, IsSpelled, PassesLimit, SpellsNothing}
-use Rattle.script_read.proofs.CommandLemmas.{keyword, begins, lead, no_query, silent, free, node_free, quiet_free}
+use Rattle.script_read.proofs.CommandLemmas.{keyword, begins, lead, no_query, silent, free, node_free, relabel_free, quiet_free}
 use Rattle.script_interpreter.specs.declared.group.Scope.{Scope}
 use Rattle.script_interpreter.specs.declared.group.Scope.TheVariants.{Group as Lines}
 use Rattle.script_interpreter.specs.declared.group.OpenGroup.{OpenGroup}
@@ -136,7 +136,7 @@ limit_not_in_group limits line p s = p_out p s
     step_free (link u v) h = free limits line (change (link u v)) h tt
     step_free (unlink u v) h = free limits line (change (unlink u v)) h tt
     step_free (drop u) h = free limits line (change (drop u)) h tt
-    step_free (relabel u t) h = absurd h
+    step_free (relabel u t) h = relabel_free limits line u h.0 (h.1, h.2)
 
     p_out : PassesLimit limits line → StandsInGroup line → ⊥
     p_out p (inl q) = quiet_free line q p.0

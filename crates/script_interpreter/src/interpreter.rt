@@ -288,6 +288,7 @@ fn obey<B: PathIndex, L: Ledger>(
         Command::Link(from, to) => change(alloc, engine, Step::Link(from, to), output),
         Command::Unlink(from, to) => change(alloc, engine, Step::Unlink(from, to), output),
         Command::Drop(node) => change(alloc, engine, Step::Drop(node), output),
+        Command::Relabel(node, label) => change(alloc, engine, Step::Relabel(node, label), output),
         Command::Begin => unreachable!(),
         Command::End => unreachable!(),
         Command::Path(via, expr) => {
@@ -335,6 +336,7 @@ fn step(command: Command) -> Option<Step>
         Command::Link(from, to) => Some(Step::Link(from, to)),
         Command::Unlink(from, to) => Some(Step::Unlink(from, to)),
         Command::Drop(node) => Some(Step::Drop(node)),
+        Command::Relabel(node, label) => Some(Step::Relabel(node, label)),
         Command::Begin => None,
         Command::End => None,
         Command::Path(_, _) => None,

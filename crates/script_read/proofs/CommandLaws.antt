@@ -3,7 +3,7 @@ use Rattle.std.proofs.Common.{◌≡◌, ◌≢◌, ℕ, ◌<◌, ◌^◌, List,
 use Rattle.std.specs.Prelude.{codes, slice_index}
 use Rattle.std.specs.List.{AllByRecursion}
 use Rattle.std.proofs.lemmas.Fmt.{decimal_injective}
-use Rattle.change_spec.specs.Steps.{node, link, unlink, drop}
+use Rattle.change_spec.specs.Steps.{node, link, unlink, drop, relabel}
 use Rattle.path_query.specs.Labels.{SpellsLabel}
 use Rattle.graph_spec.specs.Words.{node_word}
 use Rattle.bisim_spec.specs.declared.kind.Kind.{Kind}
@@ -13,9 +13,9 @@ use Rattle.index_api.specs.declared.kinds.Via.TheVariants.{Data, A, One, Fb}
 use Rattle.index_api.specs.Spelling.{via_word, kind_word}
 use Rattle.script_read.specs.FirstWords.{first_word, behind_word, expression_text}
 use Rattle.script_read.specs.Commands.{Command, change, begin, end, path, branch, why, check, extents, sizes, forget, IsIndex, IsVia, IsQuiet, IsSpelled, SpellsPair, SpellsNodes, AsksWith, Asks, NoCommand, SpellsOnce, LabelsOnce, PathsOnce, BranchesOnce}
-use Rattle.script_read.specs.ScannedLines.{SaysNode, SaysQuery, SaysWhy, SaysCheck, IsWhole}
+use Rattle.script_read.specs.ScannedLines.{SaysNode, SaysRelabel, SaysQuery, SaysWhy, SaysCheck, IsWhole}
 use Rattle.script_read.proofs.WordLemmas.{head_word, is_split}
-use Rattle.script_read.proofs.CommandLemmas.{second_same, lead, no_query, OpensWhole, no_part, apart, begins, opens_node, silent}
+use Rattle.script_read.proofs.CommandLemmas.{second_same, third_same, lead, no_query, OpensWhole, no_part, apart, begins, opens_node, opens_relabel, silent}
 
 node_number : (m n : ℕ) → m < 2 ^ 32 → n < 2 ^ 32 → node_word m ≡ node_word n → m ≡ n
 node_number m n a b e = decimal_injective m n (omega arith) (omega arith) cc
@@ -77,9 +77,10 @@ nodes_once word xs ys h k = one_list xs ys h.1 k.1 (sym h.0 ∙ k.0)
 abbrev OpensPath : ℕ → Type 0
 OpensPath b = (b ≡ lead (codes "path")) ⊎ ((b ≡ lead (codes "why")) ⊎ (b ≡ lead (codes "check")))
 
--- the word behind `node`, if there is one, spells at most one label, and the expression at most one tree
+-- the word behind `node`, or behind `relabel` and a node, if there is one, spells at most one label, and the expression at most one tree
 record PartsOnce (line : List ℕ) : Type 0 where
   label : (word : List ℕ) → SaysNode line word → LabelsOnce word
+  other_label : (u : ℕ) (word : List ℕ) → SaysRelabel line u word → LabelsOnce word
   expression : OpensPath (lead (first_word line)) → PathsOnce (expression_text line)
   query : first_word line ≡ codes "branch" → BranchesOnce (expression_text line)
 
@@ -90,6 +91,10 @@ command_one line o (change (node t)) (change (node u)) h k =
 command_one line o (change (link u v)) (change (link x y)) h k = pair_one line _ u v x y (λ a b. change (link a b)) h k
 command_one line o (change (unlink u v)) (change (unlink x y)) h k = pair_one line _ u v x y (λ a b. change (unlink a b)) h k
 command_one line o (change (drop u)) (change (drop x)) h k = ap (λ n. change (drop n)) (node_number u x h.1 k.1 (ap second (sym h.0 ∙ k.0)))
+command_one line o (change (relabel u t)) (change (relabel v r)) h k =
+    let z = sym h.1 ∙ k.1 in
+    ap (λ n. change (relabel n t)) (node_number u v h.2 k.2 (ap second z))
+    ∙ ap (λ x. change (relabel v x)) (o.other_label u h.0 (h.1, h.2) t r h.3 (subst (λ w. SpellsLabel w r) (sym (third_same z)) k.3))
 command_one line o (path v e) (path w f) h k =
     ap (λ v. path v e) (one_way line _ v w h.0 k.0) ∙ ap (path w) (o.expression (inl (ap lead h.0.0)) e f h.1 k.1)
 command_one line o (branch v e) (branch w f) h k =
@@ -129,10 +134,11 @@ no_expression line word e p w c (inl f) = p (ap lead (sym e) ∙ f)
 no_expression line word e p w c (inr (inl f)) = w (ap lead (sym e) ∙ f)
 no_expression line word e p w c (inr (inr f)) = c (ap lead (sym e) ∙ f)
 
--- the parts of a line that begins with none of `node`, `path`, `branch`, `why` and `check`
+-- the parts of a line that begins with none of `node`, `relabel`, `path`, `branch`, `why` and `check`
 no_parts : (line word : List ℕ) → first_word line ≡ word → OpensWhole (lead word) → PartsOnce line
 no_parts line word e o = record {
   label = λ w s. absurd (o.no_node (ap lead (sym e ∙ (head_word line _ _ _ _ (is_split line) s).0)));
+  other_label = λ u w s. absurd (o.no_relabel (ap lead (sym e ∙ opens_relabel line u w s)));
   expression = λ f. absurd (no_expression line word e o.no_path o.no_why o.no_check f);
   query = λ f. absurd (o.no_branch (ap lead (sym e ∙ f)));
 }
@@ -147,30 +153,42 @@ bad_once line n c d h k = absurd (n.0.1 c h)
 pub node_once : (line word : List ℕ) → SaysNode line word → LabelsOnce word → SpellsOnce line
 node_once line word s once = command_one line (record {
   label = λ w t. subst LabelsOnce (second_same (sym s ∙ t)) once;
+  other_label = λ u w t. absurd (apart (first_word line) _ _ (opens_node line word s) (opens_relabel line u w t) (λ e. omega (arith, e)));
   expression = λ f. absurd (no_expression line _ (opens_node line word s) (λ e. omega (arith, e)) (λ e. omega (arith, e)) (λ e. omega (arith, e)) f);
   query = λ f. absurd (apart (first_word line) _ _ (opens_node line word s) f (λ e. omega (arith, e)));
 })
 
+pub relabel_once : (line : List ℕ) (u : ℕ) (word : List ℕ) → SaysRelabel line u word → LabelsOnce word → SpellsOnce line
+relabel_once line u word s once = command_one line (record {
+  label = λ w t. absurd (apart (first_word line) _ _ (opens_relabel line u word s) (opens_node line w t) (λ e. omega (arith, e)));
+  other_label = λ v w t. subst LabelsOnce (third_same (sym s.0 ∙ t.0)) once;
+  expression = λ f. absurd (no_expression line _ (opens_relabel line u word s) (λ e. omega (arith, e)) (λ e. omega (arith, e)) (λ e. omega (arith, e)) f);
+  query = λ f. absurd (apart (first_word line) _ _ (opens_relabel line u word s) f (λ e. omega (arith, e)));
+})
+
 -- the line begins with this word, which a path expression follows
-expression_once : (line word text : List ℕ) → first_word line ≡ word → (lead word ≢ lead (codes "node")) → (lead word ≢ lead (codes "branch")) → text ≡ expression_text line → PathsOnce text → SpellsOnce line
-expression_once line word text e n b s once = command_one line (record {
+expression_once : (line word text : List ℕ) → first_word line ≡ word → (lead word ≢ lead (codes "node")) → (lead word ≢ lead (codes "relabel")) → (lead word ≢ lead (codes "branch"))
+    → text ≡ expression_text line → PathsOnce text → SpellsOnce line
+expression_once line word text e n r b s once = command_one line (record {
   label = λ w t. absurd (apart (first_word line) _ _ e (opens_node line w t) n);
+  other_label = λ u w t. absurd (apart (first_word line) _ _ e (opens_relabel line u w t) r);
   expression = λ f. subst PathsOnce s once;
   query = λ f. absurd (apart (first_word line) _ _ e f b);
 })
 
 pub path_once : (line : List ℕ) (via : Via) (text : List ℕ) → SaysQuery (codes "path") line via text → PathsOnce text → SpellsOnce line
-path_once line via text s once = expression_once line _ text s.0.0 (λ e. omega (arith, e)) (λ e. omega (arith, e)) s.1 once
+path_once line via text s once = expression_once line _ text s.0.0 (λ e. omega (arith, e)) (λ e. omega (arith, e)) (λ e. omega (arith, e)) s.1 once
 
 pub why_once : (line : List ℕ) (v : ℕ) (text : List ℕ) → SaysWhy line v text → PathsOnce text → SpellsOnce line
-why_once line v text s once = expression_once line _ text s.0.0 (λ e. omega (arith, e)) (λ e. omega (arith, e)) s.1 once
+why_once line v text s once = expression_once line _ text s.0.0 (λ e. omega (arith, e)) (λ e. omega (arith, e)) (λ e. omega (arith, e)) s.1 once
 
 pub check_once : (line word text : List ℕ) → SaysCheck line word text → PathsOnce text → SpellsOnce line
-check_once line word text s once = expression_once line _ text s.0 (λ e. omega (arith, e)) (λ e. omega (arith, e)) s.2 once
+check_once line word text s once = expression_once line _ text s.0 (λ e. omega (arith, e)) (λ e. omega (arith, e)) (λ e. omega (arith, e)) s.2 once
 
 pub branch_once : (line : List ℕ) (via : Via) (text : List ℕ) → SaysQuery (codes "branch") line via text → BranchesOnce text → SpellsOnce line
 branch_once line via text s once = command_one line (record {
   label = λ w t. absurd (apart (first_word line) _ _ (opens_node line w t) s.0.0 (λ e. omega (arith, e)));
+  other_label = λ u w t. absurd (apart (first_word line) _ _ (opens_relabel line u w t) s.0.0 (λ e. omega (arith, e)));
   expression = λ f. absurd (no_expression line _ s.0.0 (λ e. omega (arith, e)) (λ e. omega (arith, e)) (λ e. omega (arith, e)) f);
   query = λ f. subst BranchesOnce s.1 once;
 })
@@ -178,4 +196,4 @@ branch_once line via text s once = command_one line (record {
 pub whole_once : (line : List ℕ) (c : Command) → IsSpelled line c → IsWhole c → SpellsOnce line
 whole_once line c h w = command_one line (no_parts line _ (begins line c h) (no_part c w))
 
-pub ruleset reading_laws = (silent, quiet_once, bad_once, node_once, path_once, branch_once, why_once, check_once, whole_once)
+pub ruleset reading_laws = (silent, quiet_once, bad_once, node_once, relabel_once, path_once, branch_once, why_once, check_once, whole_once)

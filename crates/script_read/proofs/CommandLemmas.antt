@@ -12,7 +12,7 @@ use Rattle.path_query.specs.Labels.{SpellsLabel}
 use Rattle.path_query.specs.Parsed.{Spells, is_past}
 use Rattle.branch_spec.specs.Trees.{Branch}
 use Rattle.branch_text.specs.Parsed.{Spells as SpellsQuery}
-use Rattle.script_read.specs.ScannedLines.{SaysNode, SaysQuery, SaysWhy, SaysCheck, IsWhole, OpensGroup}
+use Rattle.script_read.specs.ScannedLines.{SaysNode, SaysRelabel, SaysQuery, SaysWhy, SaysCheck, IsWhole, OpensGroup}
 use Rattle.script_read.specs.ReadLines.{ReadsCommand}
 use Rattle.script_read.specs.declared.commands.ScriptError.{ScriptError}
 use Rattle.script_read.specs.declared.commands.ScriptError.TheVariants.{Bad, Limit, Memory}
@@ -38,7 +38,7 @@ keyword (change (node t)) = codes "node"
 keyword (change (link u v)) = codes "link"
 keyword (change (unlink u v)) = codes "unlink"
 keyword (change (drop u)) = codes "drop"
-keyword (change (relabel u t)) = []
+keyword (change (relabel u t)) = codes "relabel"
 keyword begin = codes "begin"
 keyword end = codes "end"
 keyword (path via e) = codes "path"
@@ -52,6 +52,10 @@ keyword (forget kind) = codes "forget"
 -- two lists of words with the same second word
 pub second_same : {a b v w : List ℕ} → a ∷ v ∷ [] ≡ b ∷ w ∷ [] → v ≡ w
 second_same e = cc
+
+-- two lists of words with the same third word
+pub third_same : {a b c d v w : List ℕ} → a ∷ b ∷ v ∷ [] ≡ c ∷ d ∷ w ∷ [] → v ≡ w
+third_same e = cc
 
 -- the first two bytes of a word, as a number
 abbrev pub lead : List ℕ → ℕ
@@ -77,9 +81,10 @@ no_query (unlink u v) = record { no_begin = λ e. omega (arith, e); no_end = λ 
 no_query (drop u) = record { no_begin = λ e. omega (arith, e); no_end = λ e. omega (arith, e); no_path = λ e. omega (arith, e); no_branch = λ e. omega (arith, e); no_why = λ e. omega (arith, e); no_check = λ e. omega (arith, e); no_extents = λ e. omega (arith, e); no_sizes = λ e. omega (arith, e); no_forget = λ e. omega (arith, e) }
 no_query (relabel u t) = record { no_begin = λ e. omega (arith, e); no_end = λ e. omega (arith, e); no_path = λ e. omega (arith, e); no_branch = λ e. omega (arith, e); no_why = λ e. omega (arith, e); no_check = λ e. omega (arith, e); no_extents = λ e. omega (arith, e); no_sizes = λ e. omega (arith, e); no_forget = λ e. omega (arith, e) }
 
--- first bytes that aren't those of `node`, `path`, `branch`, `why` or `check`
+-- first bytes that aren't those of `node`, `relabel`, `path`, `branch`, `why` or `check`
 pub record OpensWhole (b : ℕ) : Type 0 where
   pub no_node : b ≢ lead (codes "node")
+  pub no_relabel : b ≢ lead (codes "relabel")
   pub no_path : b ≢ lead (codes "path")
   pub no_branch : b ≢ lead (codes "branch")
   pub no_why : b ≢ lead (codes "why")
@@ -87,11 +92,12 @@ pub record OpensWhole (b : ℕ) : Type 0 where
 
 pub no_part : (c : Command) → IsWhole c → OpensWhole (lead (keyword c))
 no_part (change (node t)) w = absurd w
+no_part (change (relabel u t)) w = absurd w
 no_part (path via e) w = absurd w
 no_part (branch via q) w = absurd w
 no_part (why v e) w = absurd w
 no_part (check nodes e) w = absurd w
-no_part c w = record { no_node = λ e. omega (arith, e); no_path = λ e. omega (arith, e); no_branch = λ e. omega (arith, e); no_why = λ e. omega (arith, e); no_check = λ e. omega (arith, e) }
+no_part c w = record { no_node = λ e. omega (arith, e); no_relabel = λ e. omega (arith, e); no_path = λ e. omega (arith, e); no_branch = λ e. omega (arith, e); no_why = λ e. omega (arith, e); no_check = λ e. omega (arith, e) }
 
 -- two words that differ in the first two bytes
 pub apart : (word a b : List ℕ) → word ≡ a → word ≡ b → (lead a ≢ lead b) → ⊥
@@ -102,7 +108,7 @@ begins line (change (node t)) h = (head_word line _ _ _ _ (is_split line) h.1).0
 begins line (change (link u v)) h = (head_word line _ _ _ _ (is_split line) h.0).0
 begins line (change (unlink u v)) h = (head_word line _ _ _ _ (is_split line) h.0).0
 begins line (change (drop u)) h = (head_word line _ _ _ _ (is_split line) h.0).0
-begins line (change (relabel u t)) h = absurd h
+begins line (change (relabel u t)) h = (head_word line _ _ _ _ (is_split line) h.1).0
 begins line begin h = (head_word line _ _ _ _ (is_split line) h).0
 begins line end h = (head_word line _ _ _ _ (is_split line) h).0
 begins line (path via e) h = h.0.0
@@ -173,6 +179,13 @@ module _ (line word rest : List ℕ) (loud : ¬ OpensNothing word) (is_first : w
     where
       other : (c : Command) → IsSpelled line c → ⊥
       other (change (drop u)) h = absent u h.1 (follows _ _ h.0)
+      other c h = clash _ e c h (λ d. omega (arith, d))
+
+  pub none_relabel : word ≡ codes "relabel" → ((u : ℕ) (w : List ℕ) → u < 2 ^ 32 → words rest ≢ node_word u ∷ w ∷ []) → NoCommand line × (¬ Asks line)
+  none_relabel e absent = ((not_quiet, other), no_asks _ e (λ d. omega (arith, d)) (λ d. omega (arith, d)) (λ d. omega (arith, d)) (λ d. omega (arith, d)))
+    where
+      other : (c : Command) → IsSpelled line c → ⊥
+      other (change (relabel u t)) h = absent u h.0 h.2 (follows _ _ h.1)
       other c h = clash _ e c h (λ d. omega (arith, d))
 
   pub none_path : word ≡ codes "path" → ((via : Via) (x : Expr) → SpellsPath line via x → ⊥) → NoCommand line
@@ -305,7 +318,7 @@ module _ (line word rest : List ℕ) (loud : ¬ OpensNothing word) (is_first : w
       other (change (link u v)) h = o.report.other.no_link (starts (change (link u v)) h)
       other (change (unlink u v)) h = o.report.other.no_unlink (starts (change (unlink u v)) h)
       other (change (drop u)) h = o.report.other.no_drop (starts (change (drop u)) h)
-      other (change (relabel u t)) h = h
+      other (change (relabel u t)) h = o.report.other.no_relabel (starts (change (relabel u t)) h)
       other begin h = b (starts begin h)
       other end h = z (starts end h)
       other (path via e) h = o.report.no_path (starts (path via e) h)
@@ -331,7 +344,7 @@ silent line q c h = loud c h (subst OpensNothing (begins line c h) (quiet_opens 
     loud (change (link u v)) h o = omega (arith, o)
     loud (change (unlink u v)) h o = omega (arith, o)
     loud (change (drop u)) h o = omega (arith, o)
-    loud (change (relabel u t)) h o = h
+    loud (change (relabel u t)) h o = omega (arith, o)
     loud begin h o = omega (arith, o)
     loud end h o = omega (arith, o)
     loud (path via e) h o = omega (arith, o)
@@ -365,6 +378,24 @@ opens_node line word s = (head_word line _ _ _ _ (is_split line) s).0
 
 pub node_free : (limits : Limits) (line word : List ℕ) → SaysNode line word → ¬ PassesLimit limits line
 node_free limits line word s k = asks_otherwise line _ (opens_node line word s) (λ d. omega (arith, d)) (λ d. omega (arith, d)) (λ d. omega (arith, d)) (λ d. omega (arith, d)) k.0
+
+-- the same of a line that gives a node a label
+pub opens_relabel : (line : List ℕ) (u : ℕ) (word : List ℕ) → SaysRelabel line u word → first_word line ≡ codes "relabel"
+opens_relabel line u word s = (head_word line _ _ _ _ (is_split line) s.0).0
+
+pub relabel_free : (limits : Limits) (line : List ℕ) (u : ℕ) (word : List ℕ) → SaysRelabel line u word → ¬ PassesLimit limits line
+relabel_free limits line u word s k = asks_otherwise line _ (opens_relabel line u word s) (λ d. omega (arith, d)) (λ d. omega (arith, d)) (λ d. omega (arith, d)) (λ d. omega (arith, d)) k.0
+
+-- the word behind the node spells no label
+pub relabel_bad : (line : List ℕ) (u : ℕ) (word : List ℕ) → SaysRelabel line u word → ((t : List ℕ) → SpellsLabel word t → ⊥) → NoCommand line
+relabel_bad line u word s absent = (quiet, other)
+  where
+    quiet : ¬ IsQuiet line
+    quiet q = (let o : OpensNothing (codes "relabel") = subst OpensNothing (opens_relabel line u word s) (quiet_opens line _ _ (is_split line) q) in omega (arith, o))
+
+    other : (c : Command) → IsSpelled line c → ⊥
+    other (change (relabel v t)) h = absent t (subst (λ w. SpellsLabel w t) (third_same (sym h.1 ∙ s.0)) h.3)
+    other c h = apart (first_word line) _ _ (opens_relabel line u word s) (begins line c h) (λ d. omega (arith, d))
 
 -- the word behind `node` spells no label
 pub node_bad : (line word : List ℕ) → SaysNode line word → ((t : List ℕ) → SpellsLabel word t → ⊥) → NoCommand line
@@ -410,6 +441,13 @@ pub failed_node : (limits : Limits) (line word : List ℕ) (e : ScriptError) →
 failed_node limits line word Bad s n f = (node_bad line word s (f refl), node_free limits line word s)
 failed_node limits line word Limit s n f = absurd (n refl)
 failed_node limits line word Memory s n f = tt
+
+-- or the one behind `relabel` and a node
+pub failed_relabel : (limits : Limits) (line : List ℕ) (u : ℕ) (word : List ℕ) (e : ScriptError) → SaysRelabel line u word → (e ≢ Limit)
+    → (e ≡ Bad → (t : List ℕ) → SpellsLabel word t → ⊥) → ReadsCommand limits line (Err e)
+failed_relabel limits line u word Bad s n f = (relabel_bad line u word s (f refl), relabel_free limits line u word s)
+failed_relabel limits line u word Limit s n f = absurd (n refl)
+failed_relabel limits line u word Memory s n f = tt
 
 -- and if that behind `check` did
 pub failed_nodes : (limits : Limits) (line word text : List ℕ) (e : ScriptError) → SaysCheck line word text → (e ≢ Limit)

@@ -54,6 +54,9 @@ unlink_spelled = (
 drop_spelled : IsSpelled (codes "drop n7") (change (drop_node 7))
 drop_spelled = (ap (λ d. codes "drop" ∷ (110 ∷ d) ∷ []) (sym (decimal_digit 7 (lit< tt))), lit< tt)
 
+relabel_spelled : IsSpelled (codes "relabel n7 a") (change (relabel 7 (codes "a")))
+relabel_spelled = (codes "a", ap (λ d. codes "relabel" ∷ (110 ∷ d) ∷ codes "a" ∷ []) (sym (decimal_digit 7 (lit< tt))), lit< tt, inl (plain_a, refl))
+
 -- a node is written with an n, and one is dropped at a time
 no_bare_number : (u : ℕ) → ¬ IsSpelled (codes "drop 0") (change (drop_node u))
 no_bare_number u h = omega (arith, ap (λ ws. slice_index (second ws) 0) h.0)
@@ -229,7 +232,7 @@ bad_label = (λ q. omega (arith, q), other)
     other (change (link u v)) h = omega (arith, ap length h.0)
     other (change (unlink u v)) h = omega (arith, ap length h.0)
     other (change (drop_node u)) h = omega (arith, ap (λ ws. slice_index (first ws) 0) h.0)
-    other (change (relabel u t)) h = h
+    other (change (relabel u t)) h = omega (arith, ap length h.1)
     other begin h = omega (arith, ap length h)
     other end_group h = omega (arith, ap length h)
     other (path via e) h = omega (arith, ap (λ l. slice_index l 0) h.0.0)

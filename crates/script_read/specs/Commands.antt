@@ -50,13 +50,13 @@ IsQuiet line = SaysNothing (words line)
 abbrev pub SpellsPair : List ℕ → List ℕ → ℕ → ℕ → Type 0
 SpellsPair line word u v = (words line ≡ word ∷ node_word u ∷ node_word v ∷ []) × (u < 2 ^ 32) × (v < 2 ^ 32)
 
--- no line spells another label for a node
+-- the line is this change
 abbrev pub SpellsChange : List ℕ → Step → Type 0
 SpellsChange line (node t) = (word : List ℕ) × (words line ≡ codes "node" ∷ word ∷ []) × SpellsLabel word t
 SpellsChange line (link u v) = SpellsPair line (codes "link") u v
 SpellsChange line (unlink u v) = SpellsPair line (codes "unlink") u v
 SpellsChange line (drop u) = (words line ≡ codes "drop" ∷ node_word u ∷ []) × (u < 2 ^ 32)
-SpellsChange line (relabel u t) = ⊥
+SpellsChange line (relabel u t) = (word : List ℕ) × (words line ≡ codes "relabel" ∷ node_word u ∷ word ∷ []) × (u < 2 ^ 32) × SpellsLabel word t
 
 -- an index, whose level has 32 bits; the graph itself is none
 abbrev pub IsIndex : Via → Type 0

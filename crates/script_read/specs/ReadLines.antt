@@ -1,10 +1,10 @@
 -- What is read of a line.
 use Rattle.std.specs.Prelude.{ℕ, ⊤, List, Option, None, Some, Result, Ok, Err}
 use Rattle.graph_spec.specs.declared.limits.Limits.{Limits}
-use Rattle.change_spec.specs.Steps.{node, link, unlink, drop}
+use Rattle.change_spec.specs.Steps.{node, link, unlink, drop, relabel}
 use Rattle.script_read.specs.Commands.{Command, change, begin, end, path, branch, why, check, extents, sizes, forget, IsQuiet, IsSpelled, PassesLimit, SpellsNothing}
 use Rattle.script_read.specs.declared.commands.Command.{Command as Asked}
-use Rattle.script_read.specs.declared.commands.Command.TheVariants.{Node, Link, Unlink, Drop, Begin, End, Path, Branch, Why, Check, Extents, Sizes, Forget}
+use Rattle.script_read.specs.declared.commands.Command.TheVariants.{Node, Link, Unlink, Drop, Relabel, Begin, End, Path, Branch, Why, Check, Extents, Sizes, Forget}
 use Rattle.script_read.specs.declared.commands.ScriptError.{ScriptError}
 use Rattle.script_read.specs.declared.commands.ScriptError.TheVariants.{Bad, Limit, Memory}
 
@@ -14,6 +14,7 @@ command_of (Node t) = change (node t)
 command_of (Link u v) = change (link u v)
 command_of (Unlink u v) = change (unlink u v)
 command_of (Drop u) = change (drop u)
+command_of (Relabel u t) = change (relabel u t)
 command_of Begin = begin
 command_of End = end
 command_of (Path via e) = path via e

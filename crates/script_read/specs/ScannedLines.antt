@@ -1,17 +1,21 @@
 -- What a line says, before any memory is taken.
-use Rattle.std.specs.Prelude.{ℕ, ◌≡◌, ◌≢◌, List, [], ◌∷◌, codes}
-use Rattle.graph_spec.specs.Words.{words}
-use Rattle.change_spec.specs.Steps.{node}
+use Rattle.std.specs.Prelude.{ℕ, ◌≡◌, ◌≢◌, ◌<◌, ◌^◌, List, [], ◌∷◌, codes}
+use Rattle.graph_spec.specs.Words.{words, node_word}
+use Rattle.change_spec.specs.Steps.{node, relabel}
 use Rattle.index_api.specs.declared.kinds.Via.{Via}
 use Rattle.script_read.specs.Commands.{Command, change, path, branch, why, check, AsksWith, AsksWhy, Asks, IsQuiet, IsSpelled, NoCommand}
 use Rattle.script_read.specs.FirstWords.{first_word, behind_word, expression_text, OpensNothing}
 use Rattle.script_read.specs.ReadLines.{command_of}
 use Rattle.script_read.specs.declared.scan.ScannedLine.{ScannedLine}
-use Rattle.script_read.specs.declared.scan.ScannedLine.TheVariants.{Quiet, Node, Path, Branch, Why, Check, Whole, Bad}
+use Rattle.script_read.specs.declared.scan.ScannedLine.TheVariants.{Quiet, Node, Relabel, Path, Branch, Why, Check, Whole, Bad}
 
 -- the line adds a node with the label that this word spells
 abbrev pub SaysNode : List ℕ → List ℕ → Type 0
 SaysNode line word = words line ≡ codes "node" ∷ word ∷ []
+
+-- the line gives this node the label that this word spells
+abbrev pub SaysRelabel : List ℕ → ℕ → List ℕ → Type 0
+SaysRelabel line u word = (words line ≡ codes "relabel" ∷ node_word u ∷ word ∷ []) × (u < 2 ^ 32)
 
 -- the line begins with this word, and asks through this for the answers of what this text spells
 abbrev pub SaysQuery : List ℕ → List ℕ → Via → List ℕ → Type 0
@@ -28,6 +32,7 @@ SaysCheck line word text = (first_word line ≡ codes "check") × (word ≡ firs
 -- the command has neither a label nor an expression
 abbrev pub IsWhole : Command → Type 0
 IsWhole (change (node t)) = ⊥
+IsWhole (change (relabel u t)) = ⊥
 IsWhole (path via e) = ⊥
 IsWhole (branch via q) = ⊥
 IsWhole (why v e) = ⊥
@@ -41,6 +46,7 @@ pub record OpensOther (word : List ℕ) : Type 0 where
   pub no_link : word ≢ codes "link"
   pub no_unlink : word ≢ codes "unlink"
   pub no_drop : word ≢ codes "drop"
+  pub no_relabel : word ≢ codes "relabel"
 
 -- nor is it the first word of a line that asks with an expression
 pub record OpensReport (word : List ℕ) : Type 0 where
@@ -61,6 +67,7 @@ pub record OpensGroup (word : List ℕ) : Type 0 where
 abbrev pub IsScanned : List ℕ → ScannedLine → Type 0
 IsScanned line Quiet = IsQuiet line
 IsScanned line (Node word) = SaysNode line word.now
+IsScanned line (Relabel u word) = SaysRelabel line u word.now
 IsScanned line (Path via text) = SaysQuery (codes "path") line via text.now
 IsScanned line (Branch via text) = SaysQuery (codes "branch") line via text.now
 IsScanned line (Why v text) = SaysWhy line v text.now

@@ -35,6 +35,8 @@ pub enum Command {
     Unlink(NodeId, NodeId),
     /// `drop NODE`: the node is taken away, with its edges.
     Drop(NodeId),
+    /// `relabel NODE LABEL`: the node gets this label, spelled as in `node LABEL`.
+    Relabel(NodeId, Text),
     /// `begin`: the changes up to the next `end` are made as one.
     Begin,
     /// `end`: that change is made.
@@ -143,6 +145,9 @@ pub fn read(alloc: Global, line: &[u8], limits: &Limits) -> Result<Option<Comman
     match scan(line) {
         ScannedLine::Quiet => Ok(None),
         ScannedLine::Node(word) => Ok(Some(Command::Node(parse_label(alloc, word)?))),
+        ScannedLine::Relabel(node, word) => {
+            Ok(Some(Command::Relabel(node, parse_label(alloc, word)?)))
+        }
         ScannedLine::Path(via, text) => Ok(Some(Command::Path(
             via,
             parse_path(alloc, text, limits)?,

@@ -5,7 +5,7 @@ ghost use Rattle.std.specs.List.{position};
 ghost use Rattle.graph_spec.specs.Words.{words, node_word};
 ghost use Rattle.script_read.specs.Commands.{parts, SpellsNodes};
 
-use crate::words::{is_over, split_word};
+use crate::words::{is_over, one_word, split_word};
 use itoa::Buffer;
 use px_base::{Memory, NodeId};
 use std::alloc::Global;
@@ -76,6 +76,18 @@ pub(crate) fn two_nodes(rest: &[u8]) -> Option<(NodeId, NodeId)>
     } else {
         None
     }
+}
+
+/// The node and the word that follow.
+pub(crate) fn node_and_word(rest: &[u8]) -> Option<(NodeId, &[u8])>
+    ensures node { IfSome result (λ p. words rest.now ≡ node_word p.0 ∷ p.1.now ∷ []) }
+    ensures number { IfSome result (λ p. p.0 < 2 ^ 32) }
+    ensures absent { IfNone result ((u : ℕ) (w : List ℕ) → u < 2 ^ 32 → words rest.now ≢ node_word u ∷ w ∷ []) }
+{
+    let (first, behind) = split_word(rest);
+    let node = node_number(first)?;
+    let word = one_word(behind)?;
+    Some((node, word))
 }
 
 /// Where the first comma stands.

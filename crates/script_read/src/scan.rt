@@ -9,7 +9,7 @@ ghost use Rattle.script_read.specs.ScannedLines.{OpensOther, OpensReport, OpensG
 
 use crate::commands::Command;
 use crate::indexes::{one_index, one_kind, via_of};
-use crate::nodes::{node_number, one_node, two_nodes};
+use crate::nodes::{node_and_word, node_number, one_node, two_nodes};
 use crate::words::{is_over, is_word, one_word, split_word, trim_blanks};
 use index_api::Via;
 use px_base::NodeId;
@@ -20,6 +20,8 @@ pub(crate) enum ScannedLine<'a> {
     Quiet,
     /// The text of a label.
     Node(&'a [u8]),
+    /// A node, and the text of its label.
+    Relabel(NodeId, &'a [u8]),
     /// Through what a path expression is asked, and its text.
     Path(Via, &'a [u8]),
     /// The same of a branching query.
@@ -177,6 +179,11 @@ pub(crate) fn scan(line: &[u8]) -> ScannedLine<'_>
     } else if is_word(word, "drop") {
         match one_node(rest) {
             Some(node) => ScannedLine::Whole(Command::Drop(node)),
+            None => ScannedLine::Bad,
+        }
+    } else if is_word(word, "relabel") {
+        match node_and_word(rest) {
+            Some((node, label)) => ScannedLine::Relabel(node, label),
             None => ScannedLine::Bad,
         }
     } else {

@@ -12,6 +12,7 @@ enum Short {
     Node,
     Pair(char, u32, u32),
     Drop(u32),
+    Relabel(u32),
     Begin,
     End,
     Path(Via),
@@ -33,6 +34,7 @@ fn shorten(read: Result<Option<Command>, ScriptError>) -> Short {
         Ok(Some(Command::Link(from, to))) => Short::Pair('l', from, to),
         Ok(Some(Command::Unlink(from, to))) => Short::Pair('u', from, to),
         Ok(Some(Command::Drop(node))) => Short::Drop(node),
+        Ok(Some(Command::Relabel(node, _))) => Short::Relabel(node),
         Ok(Some(Command::Begin)) => Short::Begin,
         Ok(Some(Command::End)) => Short::End,
         Ok(Some(Command::Path(via, _))) => Short::Path(via),
@@ -53,7 +55,7 @@ fn shorten(read: Result<Option<Command>, ScriptError>) -> Short {
 
 #[test]
 fn lines_are_commands(rt: HostRuntime) -> Result<(), Fail> {
-    let rows: [(&[u8], Short); 26] = [
+    let rows: [(&[u8], Short); 28] = [
         (b"", Short::Quiet),
         (b" \t# node a", Short::Quiet),
         (b" node\ta ", Short::Node),
@@ -61,6 +63,11 @@ fn lines_are_commands(rt: HostRuntime) -> Result<(), Fail> {
         (b"link n0 n4294967295", Short::Pair('l', 0, 4294967295)),
         (b"unlink n10 n2", Short::Pair('u', 10, 2)),
         (b"drop n7", Short::Drop(7)),
+        (b"relabel n3 x", Short::Relabel(3)),
+        (
+            b" relabel\tn4294967295  <http://e/p>\t",
+            Short::Relabel(4294967295),
+        ),
         (b" begin\t", Short::Begin),
         (b"end", Short::End),
         (b"path data a / b \t", Short::Path(Via::Data)),
@@ -96,7 +103,7 @@ fn lines_are_commands(rt: HostRuntime) -> Result<(), Fail> {
 
 #[test]
 fn near_misses_are_bad(rt: HostRuntime) -> Result<(), Fail> {
-    let lines: [&[u8]; 42] = [
+    let lines: [&[u8]; 47] = [
         b"node",
         b"node and",
         b"node a b",
@@ -107,6 +114,11 @@ fn near_misses_are_bad(rt: HostRuntime) -> Result<(), Fail> {
         b"link n0",
         b"drop 0",
         b"drop n0 n1",
+        b"relabel n0",
+        b"relabel a n0",
+        b"relabel n01 a",
+        b"relabel n0 and",
+        b"relabel n0 a b",
         b"begin x",
         b"end n0",
         b"begins",

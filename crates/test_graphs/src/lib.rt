@@ -12,12 +12,15 @@ use std::test::Fail;
 #[cfg(test)]
 mod tests;
 
-/// How many nodes and how many edges a graph has at most.
+/// How many nodes, how many edges and how many labels a graph has at most.
 const MOST: u32 = 1 << 30;
 
 fn put_node(alloc: Global, graph: &mut Graph, label: u8) -> Result<(), Fail> {
     if graph.created() >= MOST {
         return Err("there are too many nodes".into());
+    }
+    if graph.labels().len() >= MOST {
+        return Err("there are too many labels".into());
     }
     graph.reserve_node(alloc, &Text::from_bytes(alloc, &[label])?)?;
     graph.add_node();

@@ -1,5 +1,6 @@
 // Each public call of `label_graph` once, on a small graph.
-ghost use Rattle.std.specs.Prelude.{◌≡◌, ◌<◌};
+ghost use Rattle.std.specs.Prelude.{◌≡◌, ◌<◌, IsTrue, OnOk, length};
+ghost use Rattle.label_graph.specs.ReservedGraphs.{has_text};
 
 use super::*;
 use label_graph::Digraph;
@@ -181,6 +182,7 @@ fn reserved_labels(rt: HostRuntime) -> Result<(), Fail> {
     let first = Text::from_bytes(alloc, b"first")?;
     let second = Text::from_bytes(alloc, b"second")?;
     graph.reserve_node(alloc, &first)?;
+    graph.reserve_label(alloc, &first)?;
     graph.clear_room();
     graph.reserve_node(alloc, &second)?;
     graph.reserve_node(alloc, &first)?;
@@ -188,5 +190,109 @@ fn reserved_labels(rt: HostRuntime) -> Result<(), Fail> {
     graph.add_node();
     assert!(rt; graph.labels().len() == 1 && graph.labels().find(&first).is_none());
     assert!(rt; graph.labels().find(&second) == Some(0));
+    Ok(())
+}
+
+// The number of a node's label is that of the text.
+fn check_label(rt: &impl Abort, graph: &Graph, n: NodeId, number: u32, text: &Text) {
+    assert!(rt; graph.is_live(n));
+    let label = graph.label(n);
+    assert!(rt; label == number, "{n} has {label}");
+    assert!(rt; graph.labels().find(text) == Some(number));
+}
+
+// A node gets a label for which capacity is reserved last.
+fn put_label(
+    rt: &impl Abort,
+    alloc: Global,
+    graph: &mut Graph,
+    u: NodeId,
+    label: &Text,
+) -> Result<(), Fail> {
+    assert!(rt; graph.is_live(u) && graph.labels().len() < MOST);
+    graph.reserve_label(alloc, label)?;
+    graph.set_label(u, label);
+    Ok(())
+}
+
+// Another label for a node: a new one, one that is seen, and the one that it has.
+#[test]
+fn other_labels(rt: HostRuntime) -> Result<(), Fail> {
+    let alloc = rt.alloc();
+    let mut graph = Graph::new(alloc)?;
+    let first = Text::from_bytes(alloc, b"first")?;
+    let second = Text::from_bytes(alloc, b"second")?;
+    put_node(alloc, &mut graph, b'a')?;
+    put_node(alloc, &mut graph, b'a')?;
+    put_label(&rt, alloc, &mut graph, 0, &first)?;
+    put_label(&rt, alloc, &mut graph, 1, &second)?;
+    put_label(&rt, alloc, &mut graph, 1, &first)?;
+    put_label(&rt, alloc, &mut graph, 1, &first)?;
+    check_label(&rt, &graph, 0, 1, &first);
+    check_label(&rt, &graph, 1, 1, &first);
+    assert!(rt; graph.labels().find(&second) == Some(2) && graph.labels().len() == 3);
+    assert!(rt; graph.created() == 2 && graph.node_count() == 2);
+    Ok(())
+}
+
+// Reserves a label for a node to come, and then one for a node that there is.
+fn reserve_node_first(
+    alloc: Global,
+    graph: &mut Graph,
+    node: &Text,
+    label: &Text,
+) -> Result<(), Fail>
+    ensures label { OnOk result (IsTrue (has_text graph.new.reserved.relabels label.now)) }
+    ensures node { OnOk result (0 < length graph.new.reserved.labels) }
+{
+    graph.reserve_node(alloc, node)?;
+    graph.reserve_label(alloc, label)?;
+    Ok(())
+}
+
+// The same the other way round.
+fn reserve_label_first(
+    alloc: Global,
+    graph: &mut Graph,
+    node: &Text,
+    label: &Text,
+) -> Result<(), Fail>
+    ensures label { OnOk result (IsTrue (has_text graph.new.reserved.relabels label.now)) }
+    ensures node { OnOk result (0 < length graph.new.reserved.labels) }
+{
+    graph.reserve_label(alloc, label)?;
+    graph.reserve_node(alloc, node)?;
+    Ok(())
+}
+
+// Node 0 gets its label, and then the new node comes.
+fn give_both(rt: &impl Abort, graph: &mut Graph, label: &Text)
+    requires label { IsTrue (has_text graph.old.reserved.relabels label.now) }
+    requires node { 0 < length graph.old.reserved.labels }
+{
+    assert!(rt; graph.is_live(0) && graph.labels().len() < MOST);
+    graph.set_label(0, label);
+    assert!(rt; graph.created() < MOST && graph.labels().len() < MOST);
+    graph.add_node();
+}
+
+// Labels are seen in the order in which nodes get them, whichever was reserved first.
+#[test]
+fn labels_in_any_order(rt: HostRuntime) -> Result<(), Fail> {
+    let alloc = rt.alloc();
+    let mut graph = Graph::new(alloc)?;
+    let first = Text::from_bytes(alloc, b"first")?;
+    let second = Text::from_bytes(alloc, b"second")?;
+    let third = Text::from_bytes(alloc, b"third")?;
+    let fourth = Text::from_bytes(alloc, b"fourth")?;
+    put_node(alloc, &mut graph, b'a')?;
+    reserve_node_first(alloc, &mut graph, &second, &first)?;
+    give_both(&rt, &mut graph, &first);
+    reserve_label_first(alloc, &mut graph, &fourth, &third)?;
+    give_both(&rt, &mut graph, &third);
+    check_label(&rt, &graph, 1, 2, &second);
+    check_label(&rt, &graph, 0, 3, &third);
+    check_label(&rt, &graph, 2, 4, &fourth);
+    assert!(rt; graph.labels().find(&first) == Some(1) && graph.labels().len() == 5);
     Ok(())
 }

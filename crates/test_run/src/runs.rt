@@ -177,6 +177,24 @@ const SCRIPTS: &[(&str, &str, u8)] = &[
         "added n0\nadded n1\nadded n2\nok\nok\nadded n3\nadded n4\nadded n5\nok\nok\nadded n6\nok\nok\nblocks 3\na n0 n3\nb n1 n4\nc n2 n5\n",
         0,
     ),
+    // A node gets another label, and then its old one again.
+    (
+        "node a\nnode b\nnode c\nlink n0 n1\nlink n1 n2\nnode a\nnode b\nnode c\nlink n3 n4\nlink n4 n5\nrelabel n3 x\nextents a1\n\
+        relabel n3 a\nextents a2\n",
+        "added n0\nadded n1\nadded n2\nok\nok\nadded n3\nadded n4\nadded n5\nok\nok\nok\nblocks 5\na n0\nb n1\nc n2 n5\nx n3\nb n4\n\
+        ok\nblocks 3\na n0 n3\nb n1 n4\nc n2 n5\n",
+        0,
+    ),
+    (
+        "node a\nrelabel n0 a\nrelabel n1 a\nrelabel n0 b\npath data b\n",
+        "added n0\nok\nrefused no-node\nok\nanswers 1\nn0\n",
+        1,
+    ),
+    (
+        "begin\nnode a\nrelabel n0 b\nend\nextents a0\n",
+        "added n0\nok\nblocks 1\nb n0\n",
+        0,
+    ),
     // A group is one change, which may be refused.
     (
         "begin\nnode a\nnode b\n\n# a note\nlink n0 n1\nend\nextents a1\n",

@@ -1,4 +1,4 @@
-use Rattle.std.proofs.Common.{◌↔◌, ℕ, sym, subst, IsTrue}
+use Rattle.std.proofs.Common.{◌↔◌, ◌∙◌, ℕ, List, sym, subst, IsTrue}
 use Rattle.std.specs.Prelude.{slice_get}
 use Rattle.std.proofs.lemmas.Result.{IfOk-weaker}
 use Rattle.graph_spec.specs.Members.{has}
@@ -11,7 +11,7 @@ returns-clause-image g c =
     let span = g.G.Digraph.span c.args.g.now in
     let label_at = g.G.Digraph.label_at c.args.g.now in
     let edge = g.G.Digraph.edge c.args.g.now in
-    let same = subst (λ l. (v : ℕ) → IsTrue (has l v) ↔ IsTrue (has c.args.set.now.members v)) (sym c.deref.ensures.value) c.in_ok-places.ensures in
+    let same = subst (λ (l : List ℕ). (v : ℕ) → IsTrue (has l v) ↔ IsTrue (has c.args.set.now.members v)) (sym (c.deref.ensures.value ∙ c.in_ok-places.ensures)) (λ v. (λ h. h, λ h. h)) in
     let First : ℕ → Type 0 = λ v. IsTrue (has c.deref.result.now v) in
     IfOk-weaker c.search.result (λ b. AreEnds (λ k. slice_get c.in_ok-program.program k) span label_at edge First 1 b.members) _
     (λ b h x.

@@ -11,3 +11,8 @@ pub returns-in-Node : goal.returns-in-Node
 returns-in-Node c = λ h e.
     c.either.ensures ∙ ap (λ b. b || c.is_same.result) e ∙ ap (λ b. is_seen h.seen c.args.text.now || b) c.is_same.ensures
     ∙ sym (seen_with h.seen c.in-Node.label c.args.text.now) ∙ ap (λ (s : Asked). is_seen (made (step_of s) h).seen c.args.text.now) (sym c.in-Node.is)
+
+pub returns-in-Relabel : goal.returns-in-Relabel
+returns-in-Relabel c = λ h e.
+    c.either-in-Relabel.ensures ∙ ap (λ b. b || c.is_same-in-Relabel.result) e ∙ ap (λ b. is_seen h.seen c.args.text.now || b) c.is_same-in-Relabel.ensures
+    ∙ sym (seen_with h.seen c.in-Relabel.label c.args.text.now) ∙ ap (λ (s : Asked). is_seen (made (step_of s) h).seen c.args.text.now) (sym c.in-Relabel.is)

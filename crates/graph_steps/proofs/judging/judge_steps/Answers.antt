@@ -11,7 +11,7 @@ loop-i-init c = record {
   can = tt;
   applied = refl;
   new = refl;
-  counts = c.counts_of-counts.ensures c.exact_for-exact.result;
+  counts = c.counts_of-counts.ensures.counts c.exact_for-exact.result;
   edges = λ off. (let e = c.exact_for-exact.ensures.edges off in omega (arith, e));
   labels = λ off. (let e = c.exact_for-exact.ensures.labels off in omega (arith, e));
 }
@@ -56,7 +56,7 @@ returns c =
     let inv = c.loop-i.invariant in
     let all = all_taken ss c.loop-i.i c.loop-i-test.false in
     record {
-      judges = rw c.verdict_of.ensures (judged ss g limits c.loop-i.new c.if-steps-gt-MOST_STEPS.false
+      judges = rw c.verdict_of.ensures (judged ss g limits c.loop-i.new c.counts_of-counts.ensures.graph c.if-steps-gt-MOST_STEPS.false
           (subst (λ xs. apply_all (steps_of xs) g limits ≡ Ok (after (steps_of xs) g)) all inv.applied)
           (inv.new ∙ ap (λ xs. is_new (steps_of xs) g) all));
     }

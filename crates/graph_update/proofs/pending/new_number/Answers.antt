@@ -1,7 +1,7 @@
 use Rattle.std.proofs.Common.{◌∙◌, ◌+◌, ap, sym, arith, length, take, List, Some, true≢false}
 use Rattle.std.specs.Prelude.{position, bytes_eq}
 use Rattle.graph_spec.specs.Graphs.{is_seen}
-use Rattle.change_spec.specs.Steps.{Step, made, after}
+use Rattle.change_spec.specs.Steps.{after}
 use Rattle.graph_steps.specs.StepLists.{steps_of}
 use Rattle.graph_steps.specs.declared.changes.Step.{Step as Asked}
 use Rattle.graph_steps.proofs.FrontSteps.{after_at, all_taken}
@@ -19,7 +19,7 @@ returns-then-brings c =
     let more = after_at ss i c.index-steps-i.result g c.loop-i-test.true c.index-steps-i.is in
     let some = c.brings.ensures.some c.if-brings.true in
     number_front ss (i + 1) g (bytes_eq label) c.loop-i.labels
-    (ap (λ k. position (bytes_eq label) k.seen) (more ∙ ap (λ (s : Step). made s h) some) ∙ unseen_number h.seen label inv.unseen ∙ ap Some (sym inv.labels))
+    (ap (λ k. position (bytes_eq label) k.seen) more ∙ ap (position (bytes_eq label)) (some h) ∙ unseen_number h.seen label inv.unseen ∙ ap Some (sym inv.labels))
 
 pub labels_by-labels-requires-clause-labels : goal.labels_by-labels-requires-clause-labels
 labels_by-labels-requires-clause-labels c = c.loop-i.invariant.labels

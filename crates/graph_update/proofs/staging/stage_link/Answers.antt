@@ -1,4 +1,5 @@
 use Rattle.std.proofs.Common.{◌∙◌, sym}
+use Rattle.change_spec.specs.Steps.{link}
 use Rattle.graph_steps.specs.StepLists.{steps_of}
 use Rattle.graph_update.proofs.StagedSteps.{staged_link, staged_idle, joinable}
 use Rattle.graph_update.proofs.staging.stage_link.Goals as goal
@@ -13,7 +14,7 @@ reserve_edge-requires-clause-onto c =
 
 pub returns-then-has_edge-clause-staged : goal.returns-then-has_edge-clause-staged
 returns-then-has_edge-clause-staged c =
-    staged_idle (steps_of c.args.front.now) c.args.from c.args.to c.args.graph.now c.args.plans.now.items (sym c.has_edge.ensures ∙ c.if-has_edge.true) c.requires.staged
+    staged_idle (steps_of c.args.front.now) (link c.args.from c.args.to) c.args.graph.now c.args.plans.now.items (sym c.has_edge.ensures ∙ c.if-has_edge.true) c.requires.staged
 
 pub returns-clause-staged : goal.returns-clause-staged
 returns-clause-staged c =

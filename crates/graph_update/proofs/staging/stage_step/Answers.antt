@@ -19,3 +19,6 @@ returns-in-Unlink-clause-staged c = rw c.in-Unlink.is (on_ok_weaker c.stage_unli
 
 pub returns-in-Drop-clause-staged : goal.returns-in-Drop-clause-staged
 returns-in-Drop-clause-staged c = rw c.in-Drop.is (on_ok_weaker c.stage_drop.result (λ f. f (steps_of c.args.front.now) c.requires.staged) c.stage_drop.ensures.staged)
+
+pub returns-in-Relabel-clause-staged : goal.returns-in-Relabel-clause-staged
+returns-in-Relabel-clause-staged c = rw c.in-Relabel.is c.stage_relabel.ensures.staged

@@ -1,4 +1,5 @@
 use Rattle.graph_update.specs.PendingChanges.{graph_after}
+use Rattle.level_update.specs.LevelEffects.{lone_nodes}
 use Rattle.level_update.proofs.Bases.{bases}
 use Rattle.level_update.proofs.EffectLevels.{way_start, way_done, same_next}
 use Rattle.level_update.proofs.effects.draft_level.Goals as goal
@@ -6,7 +7,7 @@ use Rattle.level_update.proofs.effects.draft_level.Goals as goal
 pub join_nodes-requires-clause-start : goal.join_nodes-requires-clause-start
 join_nodes-requires-clause-start c =
     let b = c.requires.before in
-    way_start c.args.after.now.before (graph_after c.args.after.now) c.args.effects.now.came c.args.family.now c.args.draft.now c.args.i
+    way_start c.args.after.now.before (graph_after c.args.after.now) (lone_nodes c.args.effects.now) c.args.family.now c.args.draft.now c.args.i
     (bases c.args.after.now.before c.args.family.now b.graph b.fits b.family) c.requires.level c.requires.over c.requires.none c.requires.below
 
 pub returns-in_err-lower_edges-clause-others : goal.returns-in_err-lower_edges-clause-others

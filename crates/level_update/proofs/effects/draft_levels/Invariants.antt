@@ -1,6 +1,13 @@
+use Rattle.std.proofs.Common.{◌+◌, ◌*◌, ◌≤◌}
+use Rattle.std.specs.List.{sum_by}
 use Rattle.graph_update.specs.PendingChanges.{graph_after}
+use Rattle.level_update.specs.LevelCosts.{place_cost}
+use Rattle.level_update.specs.LevelEffects.{lone_nodes}
 use Rattle.level_update.proofs.EffectLevels.{AreDraftedTo}
 use Rattle.level_update.proofs.effects.draft_levels.Given as goal
 
 abbrev pub invariant-levels : goal.invariant-levels
-invariant-levels l = AreDraftedTo l.effects.came (graph_after l.after) l.family l.draft l.i
+invariant-levels g l = record {
+  drafted : AreDraftedTo (lone_nodes l.effects) (graph_after l.after) l.family l.draft l.i;
+  cost : l.steps ≤ l.initial.steps + l.i * sum_by (place_cost l.after) l.effects.relabelled;
+}

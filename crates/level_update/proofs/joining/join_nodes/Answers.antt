@@ -1,6 +1,6 @@
 use Rattle.std.proofs.Common.{arith, [], ℕ, List, sym, subst, take, get_or}
 use Rattle.graph_update.specs.PendingChanges.{graph_after}
-use Rattle.level_update.specs.LevelEffects.{IsLevelOnWay}
+use Rattle.level_update.specs.LevelEffects.{lone_nodes, IsLevelOnWay}
 use Rattle.level_update.proofs.EffectLevels.{came_live, came_dead, own_some, own_labelled, below_same, same_next, live_small, nodes_next, way_joined}
 use Rattle.level_update.proofs.joining.join_nodes.Goals as goal
 
@@ -11,8 +11,8 @@ label-label-requires c = record {
 
 pub first_number-number-requires-clause-some : goal.first_number-number-requires-clause-some
 first_number-number-requires-clause-some c =
-    own_some (graph_after c.args.after.now) c.args.effects.now.came c.args.family.now c.joins.draft c.args.i (get_or c.came-came.result.now c.joins.n-index 0) c.label-label.result
-    (below_same c.args.effects.now.came (graph_after c.args.after.now) c.args.family.now c.args.draft.now c.joins.draft c.args.i c.joins.invariant.others c.requires.below)
+    own_some (graph_after c.args.after.now) (lone_nodes c.args.effects.now) c.args.family.now c.joins.draft c.args.i (get_or c.came-came.result.now c.joins.n-index 0) c.label-label.result
+    (below_same (lone_nodes c.args.effects.now) (graph_after c.args.after.now) c.args.family.now c.args.draft.now c.joins.draft c.args.i c.joins.invariant.others c.requires.below)
     (came_live c.args.after.now.before (graph_after c.args.after.now) c.came-came.result.now c.args.effects.now c.joins.n-index c.requires.effects c.came-came.ensures c.joins-test.true)
 
 pub join_node-requires-clause-small : goal.join_node-requires-clause-small
@@ -23,9 +23,9 @@ join_node-requires-clause-small c =
 
 pub join_node-requires-clause-labelled : goal.join_node-requires-clause-labelled
 join_node-requires-clause-labelled c =
-    own_labelled (graph_after c.args.after.now) c.args.effects.now.came c.args.family.now c.joins.draft c.args.i (get_or c.came-came.result.now c.joins.n-index 0) c.label-label.result
+    own_labelled (graph_after c.args.after.now) (lone_nodes c.args.effects.now) c.args.family.now c.joins.draft c.args.i (get_or c.came-came.result.now c.joins.n-index 0) c.label-label.result
     c.first_number-number.result
-    (below_same c.args.effects.now.came (graph_after c.args.after.now) c.args.family.now c.args.draft.now c.joins.draft c.args.i c.joins.invariant.others c.requires.below)
+    (below_same (lone_nodes c.args.effects.now) (graph_after c.args.after.now) c.args.family.now c.args.draft.now c.joins.draft c.args.i c.joins.invariant.others c.requires.below)
     c.joins.invariant.way.over c.requires.level c.joins.invariant.way.begin c.label-label.ensures.number c.first_number-number.ensures
 
 pub joins-preserved : goal.joins-preserved
@@ -36,9 +36,9 @@ joins-preserved c =
     let at_place = c.joins.n-index in
     record {
       way = subst (λ (xs : List ℕ). IsLevelOnWay g2 g xs [] c.args.family.now c.join_node.new.draft c.args.i) (sym (nodes_next came at_place c.joins-test.true))
-          (way_joined g g2 c.args.effects.now.came (take at_place came) c.args.family.now c.joins.draft c.join_node.new.draft c.args.i (get_or came at_place 0) c.label-label.result
+          (way_joined g g2 (lone_nodes c.args.effects.now) (take at_place came) c.args.family.now c.joins.draft c.join_node.new.draft c.args.i (get_or came at_place 0) c.label-label.result
           c.first_number-number.result c.requires.before.graph (came_dead g g2 came c.args.effects.now at_place c.requires.effects c.came-came.ensures c.joins-test.true)
-          (below_same c.args.effects.now.came g2 c.args.family.now c.args.draft.now c.joins.draft c.args.i c.joins.invariant.others c.requires.below) c.joins.invariant.way
-          c.join_node.ensures.others c.label-label.ensures.number c.first_number-number.ensures c.in_ok-join_node.ensures.joined);
+          (below_same (lone_nodes c.args.effects.now) g2 c.args.family.now c.args.draft.now c.joins.draft c.args.i c.joins.invariant.others c.requires.below) c.joins.invariant.way
+          c.join_node.ensures.others c.label-label.ensures.number c.first_number-number.ensures c.in_ok-join_node.ensures.joined c.in_ok-join_node.ensures.supports);
       others = same_next c.args.i c.args.draft.now c.joins.draft c.join_node.new.draft c.joins.invariant.others c.join_node.ensures.others;
     }

@@ -4,7 +4,7 @@ use Rattle.label_graph.specs.GraphViews.{label_number}
 use Rattle.graph_update.specs.PendingChanges.{graph_after}
 use Rattle.quotient_draft.specs.Drafts.{shown_blocks, shown_labels, shown_support}
 use Rattle.one_spec.specs.FirstCandidates.{AreFirstCandidates}
-use Rattle.one_update.proofs.PhaseLaws.{stable_there, block_labels_but, has_graph, reach_cost, stepped}
+use Rattle.one_update.proofs.PhaseLaws.{stable_there, labels_but_found, has_graph, reach_cost, stepped}
 use Rattle.one_update.proofs.resettling.resettle.Goals as goal
 
 pub split-requires : goal.split-requires
@@ -13,8 +13,7 @@ split-requires g c = record {
   once = c.requires.targets.once;
   stable = stable_there c.args.after.now.before c.args.after.now.change c.args.targets.now c.args.index.now.base.now c.args.draft.now c.requires.before.graph c.requires.before.graph_after
       c.requires.before.fits c.requires.targets c.requires.changed;
-  block_labels = block_labels_but (has c.args.targets.now) (shown_blocks c.args.index.now.base.now c.args.draft.now) (at (shown_labels c.args.index.now.base.now c.args.draft.now))
-      (label_number (graph_after c.args.after.now)) c.requires.changed.block_labels;
+  block_labels = labels_but_found c.args.after.now.before c.args.after.now.change c.args.targets.now c.args.index.now.base.now c.args.draft.now c.requires.targets c.requires.changed;
   none = c.new-blocks.ensures.items;
   supports = c.requires.changed.supports;
 }

@@ -2,8 +2,8 @@ use Rattle.std.proofs.Common.{◌≡◌, ap, sym, ◌∙◌, Err}
 use Rattle.std.proofs.lemmas.Result.{err_from_is_err_and}
 use Rattle.script_read.specs.ReadLines.{command_of}
 use Rattle.script_read.specs.declared.commands.ScriptError.TheVariants.{Limit}
-use Rattle.script_read.proofs.CommandLemmas.{failed_node, failed_nodes, failed_path, failed_branch, failed_why, failed_check, node_free, free}
-use Rattle.script_read.proofs.CommandLaws.{path_once, branch_once, why_once, check_once, whole_once}
+use Rattle.script_read.proofs.CommandLemmas.{failed_node, failed_relabel, failed_nodes, failed_path, failed_branch, failed_why, failed_check, node_free, relabel_free, free}
+use Rattle.script_read.proofs.CommandLaws.{relabel_once, path_once, branch_once, why_once, check_once, whole_once}
 use Rattle.script_read.proofs.commands.read.Goals as goal
 
 pub returns-in_err-parse_label-in-Node-clause-reads : goal.returns-in_err-parse_label-in-Node-clause-reads
@@ -17,6 +17,24 @@ returns-in_ok-parse_label-in-Node-clause-reads c = (
   (c.in-Node.word.now, c.in-Node.ensures, c.in_ok-parse_label-in-Node.ensures.ok),
   node_free c.args.limits.now c.args.line.now c.in-Node.word.now c.in-Node.ensures,
 )
+
+pub returns-in_err-parse_label-in-Relabel-clause-reads : goal.returns-in_err-parse_label-in-Relabel-clause-reads
+returns-in_err-parse_label-in-Relabel-clause-reads c =
+    let p = err_from_is_err_and c.from_residual-in_err-parse_label-in-Relabel.result c.from_residual-in_err-parse_label-in-Relabel.ensures.1 in
+    rw p.1 (failed_relabel c.args.limits.now c.args.line.now c.in-Relabel.node c.in-Relabel.word.now p.0 c.in-Relabel.ensures
+    (λ i. c.in_err-parse_label-in-Relabel.ensures.no_limit (ap Err (sym p.2 ∙ i))) (λ i. c.in_err-parse_label-in-Relabel.ensures.bad (ap Err (sym p.2 ∙ i))))
+
+pub returns-in_ok-parse_label-in-Relabel-clause-reads : goal.returns-in_ok-parse_label-in-Relabel-clause-reads
+returns-in_ok-parse_label-in-Relabel-clause-reads c = (
+  (c.in-Relabel.word.now, c.in-Relabel.ensures.0, c.in-Relabel.ensures.1, c.in_ok-parse_label-in-Relabel.ensures.ok),
+  relabel_free c.args.limits.now c.args.line.now c.in-Relabel.node c.in-Relabel.word.now c.in-Relabel.ensures,
+)
+
+pub returns-in_err-parse_label-in-Relabel-clause-once : goal.returns-in_err-parse_label-in-Relabel-clause-once
+returns-in_err-parse_label-in-Relabel-clause-once c = relabel_once c.args.line.now c.in-Relabel.node c.in-Relabel.word.now c.in-Relabel.ensures c.in_err-parse_label-in-Relabel.ensures.once
+
+pub returns-in_ok-parse_label-in-Relabel-clause-once : goal.returns-in_ok-parse_label-in-Relabel-clause-once
+returns-in_ok-parse_label-in-Relabel-clause-once c = relabel_once c.args.line.now c.in-Relabel.node c.in-Relabel.word.now c.in-Relabel.ensures c.in_ok-parse_label-in-Relabel.ensures.once
 
 pub returns-in-Whole-clause-reads : goal.returns-in-Whole-clause-reads
 returns-in-Whole-clause-reads c = (c.in-Whole.ensures.0, free c.args.limits.now c.args.line.now (command_of c.in-Whole.command) c.in-Whole.ensures.0 c.in-Whole.ensures.1)

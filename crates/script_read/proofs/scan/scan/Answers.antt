@@ -2,7 +2,7 @@ use Rattle.std.proofs.Common.{rules, refl, sym, true≢false, ap, ◌∙◌, ◌
 use Rattle.graph_spec.specs.Words.{node_word}
 use Rattle.script_read.specs.FirstWords.{OpensNothing}
 use Rattle.script_read.proofs.WordLemmas.{words-cons}
-use Rattle.script_read.proofs.CommandLemmas.{opens_quiet, opens_some, none_node, none_link, none_unlink, none_drop}
+use Rattle.script_read.proofs.CommandLemmas.{opens_quiet, opens_some, none_node, none_link, none_unlink, none_drop, none_relabel}
 use Rattle.script_read.proofs.scan.scan.Goals as goal
 
 pub returns-then-opens_nothing : goal.returns-then-opens_nothing
@@ -55,6 +55,19 @@ returns-in-None-one_node c =
     let loud = λ (o : OpensNothing c.split_word.result.0.now). true≢false (sym (c.if-opens_nothing.ensures.1 o)) in
     none_drop c.args.line.now _ _ loud c.split_word.ensures.word c.split_word.ensures.rest (c.if-is_word-4.ensures.0 refl) c.in-None-one_node.ensures.absent
 
+pub returns-in-Some-node_and_word : goal.returns-in-Some-node_and_word
+returns-in-Some-node_and_word c =
+    let loud = λ (o : OpensNothing c.split_word.result.0.now). true≢false (sym (c.if-opens_nothing.ensures.1 o)) in
+    let f = c.in-Some-node_and_word.ensures.node in
+    let whole = words-cons _ _ _ _ c.split_word.ensures.parts (opens_some _ loud) f
+    ∙ ap (λ w. w ∷ node_word c.in-Some-node_and_word.node ∷ c.in-Some-node_and_word.label.now ∷ []) (c.if-is_word-5.ensures.0 refl) in
+    (whole, c.in-Some-node_and_word.ensures.number)
+
+pub returns-in-None-node_and_word : goal.returns-in-None-node_and_word
+returns-in-None-node_and_word c =
+    let loud = λ (o : OpensNothing c.split_word.result.0.now). true≢false (sym (c.if-opens_nothing.ensures.1 o)) in
+    none_relabel c.args.line.now _ _ loud c.split_word.ensures.word c.split_word.ensures.rest (c.if-is_word-5.ensures.0 refl) c.in-None-node_and_word.ensures.absent
+
 pub scan_query-requires : goal.scan_query-requires
 scan_query-requires c = record {
   loud = λ o. true≢false (sym (c.if-opens_nothing.ensures.1 o));
@@ -62,4 +75,5 @@ scan_query-requires c = record {
   no_link = λ e. true≢false (sym (c.if-is_word-2.ensures.1 e));
   no_unlink = λ e. true≢false (sym (c.if-is_word-3.ensures.1 e));
   no_drop = λ e. true≢false (sym (c.if-is_word-4.ensures.1 e));
+  no_relabel = λ e. true≢false (sym (c.if-is_word-5.ensures.1 e));
 }

@@ -1,9 +1,8 @@
-use Rattle.std.proofs.Common.{◌∙◌, ap, sym, subst, ◌++◌, ◌∷◌, [], length}
+use Rattle.std.proofs.Common.{◌∙◌, ap, sym, ◌++◌, ◌∷◌, []}
 use Rattle.std.specs.Prelude.{slice_get, bytes_eq, if◌then◌else◌}
-use Rattle.std.proofs.lemmas.Option.{slice_get_within}
-use Rattle.label_graph.specs.LabelTable.{entries, IsPlaced}
+use Rattle.label_graph.specs.LabelTable.{entries}
 use Rattle.label_graph.proofs.Positions.{position-none, present, text-at}
-use Rattle.label_graph.proofs.Tables.{ahead-is, ahead-number, ahead-placed}
+use Rattle.label_graph.proofs.Tables.{ahead-is, ahead-number}
 use Rattle.label_graph.proofs.labels.Labels.reserve.Goals as goal
 
 pub put_ahead-requires : goal.put_ahead-requires
@@ -21,13 +20,6 @@ pub returns-in-Some-clause-number : goal.returns-in-Some-clause-number
 returns-in-Some-clause-number c =
     ap (λ s. slice_get (entries s) c.in-Some.l) c.recall.ensures.same ∙ text-at c.args.text.now (entries c.args.self.now) c.in-Some.l (sym c.in-Some.ensures.place)
 
-pub returns-in-Some-clause-placed : goal.returns-in-Some-clause-placed
-returns-in-Some-clause-placed c =
-    let t = c.args.text.now in
-    let e = entries c.args.self.now in
-    subst (λ b. IsPlaced b (length e) c.in-Some.l) (sym (present (bytes_eq t) e c.in-Some.l (sym c.in-Some.ensures.place)))
-    (slice_get_within e c.in-Some.l t (text-at t e c.in-Some.l (sym c.in-Some.ensures.place)))
-
 pub returns-in-None-clause-ahead : goal.returns-in-None-clause-ahead
 returns-in-None-clause-ahead c =
     ahead-is c.put_ahead.result c.recall.new.self c.args.self.now c.put_ahead.new.self c.args.text.now c.recall.ensures.same
@@ -36,8 +28,3 @@ returns-in-None-clause-ahead c =
 pub returns-in-None-clause-number : goal.returns-in-None-clause-number
 returns-in-None-clause-number c =
     ahead-number c.put_ahead.result c.recall.new.self c.put_ahead.new.self c.args.text.now c.put_ahead.ensures.ok c.put_ahead.ensures.number
-
-pub returns-in-None-clause-placed : goal.returns-in-None-clause-placed
-returns-in-None-clause-placed c =
-    ahead-placed c.put_ahead.result c.recall.new.self c.args.self.now c.args.text.now c.recall.ensures.same
-    (position-none (bytes_eq c.args.text.now) (entries c.args.self.now) (sym c.in-None.ensures.place)) c.put_ahead.ensures.number

@@ -1,0 +1,130 @@
+// The nodes that get another label with a change.
+ghost use Rattle.std.specs.Prelude.{◌≡◌, ◌++◌, ◌&&◌, not, IfOk, IsTrue, OnOk};
+ghost use Rattle.std.specs.List.{list_any};
+ghost use Rattle.graph_spec.specs.Graphs.{is_live};
+ghost use Rattle.graph_spec.specs.Members.{Lists};
+ghost use Rattle.graph_steps.specs.StepLists.{step_of, steps_of};
+ghost use Rattle.graph_update.specs.PendingChanges.{graph_after};
+ghost use Rattle.graph_effects.specs.Effects.{is_relabelled};
+ghost use Rattle.graph_effects.specs.StepEffects.{relabels, relabelled_last, relabelled_where};
+
+use crate::nodes::note_if;
+use graph_steps::Step;
+use graph_update::After;
+use label_graph::Graph;
+use px_base::{Memory, NodeId};
+use std::alloc::Global;
+
+// Whether the step gives the node a label.
+fn relabels(step: &Step, n: NodeId) -> bool
+    ensures { result ≡ relabels n (step_of step.now) }
+{
+    match step {
+        Step::Relabel(u, _) => n == *u,
+        _ => false,
+    }
+}
+
+// Whether one of the steps does so.
+fn any_relabels(steps: &[Step], n: NodeId) -> bool
+    ensures { result ≡ list_any (λ s. relabels n (step_of s)) steps.now }
+{
+    steps.iter().any(|s| relabels(s, n))
+}
+
+// The same, said of the steps that they stand for.
+fn is_given_label(steps: &[Step], n: NodeId) -> bool
+    ensures { result ≡ list_any (relabels n) (steps_of steps.now) }
+{
+    any_relabels(steps, n)
+}
+
+// Whether a node of both graphs has another label in the second.
+fn labels_differ(graph: &Graph, after: &After<'_>, n: NodeId) -> bool
+    requires graph { after.now.before ≡ graph.now.graph }
+    requires before { IsTrue (is_live graph.now.graph n) }
+    requires after { IsTrue (is_live (graph_after after.now) n) }
+    ensures { result ≡ is_relabelled after.now.before (graph_after after.now) n }
+{
+    // Called for its contract: there is a graph, and labels keep their numbers.
+    let _known = after.created();
+    graph.label(n) != after.label(n)
+}
+
+// Whether the number is that of a node of both graphs, with another label in the second.
+fn is_other(graph: &Graph, after: &After<'_>, n: NodeId) -> bool
+    requires graph { after.now.before ≡ graph.now.graph }
+    ensures { result ≡ is_relabelled after.now.before (graph_after after.now) n }
+{
+    if !graph.is_live(n) {
+        return false;
+    }
+    if !after.is_live(n) {
+        return false;
+    }
+    labels_differ(graph, after, n)
+}
+
+fn is_last(other: bool, again: bool) -> bool
+    ensures { result ≡ (other && not again) }
+{
+    other && !again
+}
+
+// Notes the node to which the step gives another label, unless a later step gives it one.
+fn note_last(
+    nodes: &mut Vec<NodeId>,
+    graph: &Graph,
+    after: &After<'_>,
+    step: &Step,
+    rest: &[Step],
+) -> Result<(), Memory>
+    requires graph { after.now.before ≡ graph.now.graph }
+    ensures { OnOk result (nodes.new.items ≡ nodes.old.items
+        ++ relabelled_last (is_relabelled after.now.before (graph_after after.now)) (step_of step.now) (steps_of rest.now)) }
+{
+    match step {
+        Step::Relabel(u, _) => {
+            let wanted = is_last(is_other(graph, after, *u), is_given_label(rest, *u));
+            note_if(nodes, *u, wanted)
+        }
+        _ => Ok(()),
+    }
+}
+
+// Notes the nodes to which steps give other labels, each once.
+fn note_all(
+    nodes: &mut Vec<NodeId>,
+    graph: &Graph,
+    after: &After<'_>,
+    all: &[Step],
+) -> Result<(), Memory>
+    requires graph { after.now.before ≡ graph.now.graph }
+    ensures { OnOk result (nodes.new.items ≡ nodes.old.items
+        ++ relabelled_where (is_relabelled after.now.before (graph_after after.now)) (steps_of all.now)) }
+{
+    let mut left = all;
+    while let Some((step, rest)) = left.split_first() {
+        left = rest;
+        note_last(nodes, graph, after, step, rest)?;
+    }
+    Ok(())
+}
+
+/// The nodes of both graphs that get another label, each once.
+pub(crate) fn relabelled_nodes(
+    alloc: Global,
+    graph: &Graph,
+    steps: &[Step],
+    after: &After<'_>,
+) -> Result<Vec<NodeId>, Memory>
+    requires graph { after.now.before ≡ graph.now.graph }
+    requires same { after.now.change ≡ steps_of steps.now }
+    ensures { IfOk result (λ nodes. Lists (is_relabelled after.now.before (graph_after after.now)) nodes.items) }
+{
+    // Called for its contract: the steps can be made.
+    let _known = after.created();
+    let mut nodes = Vec::new(alloc);
+    note_all(&mut nodes, graph, after, steps)?;
+    Ok(nodes)
+}
