@@ -87,9 +87,12 @@ no_third_word t h = omega (arith, ap length h.1)
 no_word_behind_iri : (t : List ℕ) → ¬ IsSpelled (codes "node <http://e/a> x") (change (node t))
 no_word_behind_iri t h = omega (arith, ap length h.1)
 
--- no line gives a node another label
-no_relabel : (line : List ℕ) (u : ℕ) (t : List ℕ) → ¬ IsSpelled line (change (relabel u t))
-no_relabel line u t h = h
+-- the node is named first, and one label comes behind it
+no_label_left_out : (u : ℕ) (t : List ℕ) → ¬ IsSpelled (codes "relabel n0") (change (relabel u t))
+no_label_left_out u t h = omega (arith, ap length h.1)
+
+no_second_label : (u : ℕ) (t : List ℕ) → ¬ IsSpelled (codes "relabel n0 a b") (change (relabel u t))
+no_second_label u t h = omega (arith, ap length h.1)
 
 -- `begin` and `end` stand alone
 begin_spelled : IsSpelled (codes " begin\t") begin
