@@ -1,17 +1,14 @@
 -- The definitions at a worked file, and at near misses.
-use Rattle.std.proofs.Common.{◌≡◌, ◌≢◌, ℕ, suc, List, [], ◌∷◌, ◌++◌, refl, Option, Some, None, Bool, true, false, arith, inl, ap}
-use Rattle.std.specs.Prelude.{codes, decimal, nat_eq, option_and_then, slice_index, map}
-use Rattle.std.specs.Fmt.{digits}
+use Rattle.std.proofs.Common.{◌≡◌, ℕ, List, [], ◌∷◌, ◌++◌, refl, Option, Some, None, true, false, arith, inl, ap}
+use Rattle.std.specs.Prelude.{codes, option_and_then, slice_index, map}
 use Rattle.graph_spec.specs.ProgramLimits.{program_limits}
-use Rattle.graph_spec.specs.Lines.{Line, cut}
-use Rattle.graph_spec.specs.Shapes.{Shape}
-use Rattle.path_query.specs.Labels.{IsPlainLabel, SpellsLabel}
+use Rattle.graph_spec.specs.Lines.{cut}
 use Rattle.index_api.specs.declared.kinds.Via.{Via}
 use Rattle.index_api.specs.declared.kinds.Via.TheVariants.{Data, A, One, Fb}
-use Rattle.index_file.specs.SavedFiles.{SavedFile, SavedView, seen_of, ranks_at, graph_of}
-use Rattle.index_file.specs.Statements.{Statement, title, given, live, gone, edges, edge, views, view, rank, is_decimal, number_of, Says}
+use Rattle.index_file.specs.SavedFiles.{seen_of, ranks_at}
+use Rattle.index_file.specs.Statements.{Statement, title, given, live, gone, edges, edge, views, view, rank, number_of, Says}
 use Rattle.index_file.specs.declared.due.Due.TheVariants as due
-use Rattle.index_file.specs.Readings.{Reading, RankedView, nothing_read, next_reading, exceeds, is_complete, file_of, follows, is_end, view_in}
+use Rattle.index_file.specs.Readings.{Reading, RankedView, nothing_read, next_reading, exceeds, is_complete, view_in}
 
 abbrev all_taken : List Statement → Reading → Option Reading
 all_taken [] h = Some h

@@ -1,3 +1,14 @@
 mod Examples
 mod ListedEdges
 mod RankedBlocks
+mod DecimalLaws
+mod WordLaws
+mod StepLaws
+mod ReadLabelLaws
+mod ReadNodeLaws
+mod LineLaws
+mod ReadViewLaws
+mod DraftLaws
+mod OneStatement
+mod OneOutcome
+mod Matches

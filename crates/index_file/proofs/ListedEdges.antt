@@ -1,5 +1,5 @@
 -- The lines of edges, from a list of children.
-use Rattle.std.proofs.Common.{◌≡◌, ℕ, ◌<◌, List, [], ◌++◌, length, Bool, true, false, true≢false, IsTrue, refl, sym, ◌∙◌, ap, inl, inr, arith}
+use Rattle.std.proofs.Common.{◌≡◌, ℕ, List, [], length, true, false, true≢false, refl, sym, ◌∙◌, inl, inr, arith}
 use Rattle.std.specs.List.{flat_map}
 use Rattle.std.specs.List.Sorted.{IsStrictlyIncreasing}
 use Rattle.std.proofs.lemmas.Bool.{cases_Bool}
@@ -7,7 +7,6 @@ use Rattle.graph_spec.specs.Graphs.{Graph, IsGraph, has_edge, is_live}
 use Rattle.std.specs.Prelude.{if◌then◌else◌}
 use Rattle.graph_spec.specs.Members.{has}
 use Rattle.graph_spec.proofs.GraphLaws.{is_shape}
-use Rattle.extent_report.specs.ListedBlocks.{texts_below}
 use Rattle.extent_report.proofs.RisingLists.{texts_listed, flat_same}
 use Rattle.extent_report.proofs.NumberedTexts.{texts_past}
 use Rattle.index_file.specs.WrittenFiles.{edge_line, edges_from}

@@ -1,7 +1,7 @@
 -- The ranks of blocks, as they are met.
-use Rattle.std.proofs.Common.{◌≡◌, ◌≢◌, ℕ, zero, suc, ◌+◌, ◌<◌, ◌≤◌, List, Option, Some, None, IsSome, is_some, Bool, true, false, ◌&&◌, not, true≢false, refl, sym, ◌∙◌, ap, subst, arith, inl, inr, ◌⊎◌, length, set, cond, get_or-set_same, get_or-set_other}
+use Rattle.std.proofs.Common.{◌≡◌, ◌≢◌, ℕ, zero, suc, ◌+◌, ◌<◌, ◌≤◌, List, Option, Some, None, is_some, Bool, true, false, ◌&&◌, not, true≢false, refl, sym, ◌∙◌, ap, subst, arith, inl, inr, ◌⊎◌, length, set, get_or-set_same, get_or-set_other}
 use Rattle.std.proofs.lemmas.Bool.{cases_lt, cases_Bool, and_parts}
-use Rattle.graph_spec.specs.Shapes.{Shape, IsNode}
+use Rattle.graph_spec.specs.Shapes.{Shape}
 use Rattle.graph_spec.specs.Members.{at}
 use Rattle.bisim_spec.specs.Below.{any_below, count_below}
 use Rattle.bisim_spec.specs.Partitions.{Together, IsPartition}

@@ -2,7 +2,13 @@ pub mod SavedFiles
 pub mod FoundNumbers
 pub mod Statements
 pub mod Readings
+pub mod NamedIndexes
 pub mod Reads
+pub mod ReadLabels
+pub mod ReadNodes
+pub mod ReadViews
+pub mod Drafts
+pub mod ReadSteps
 pub mod WrittenFiles
 pub mod BlockRanks
 pub mod FittingViews

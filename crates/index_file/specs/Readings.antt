@@ -104,14 +104,20 @@ take_given n k r = if nat_le k 8 then Some (record r { due = Nodes n; k = k }) e
 abbrev pub take_node : ℕ → Option (List ℕ) → Reading → Option Reading
 take_node n label r = Some (record r { due = Nodes n; allocated = r.allocated ++ label ∷ [] })
 
+-- whether an edge may come next: both ends are live, and it stands behind the last one
+abbrev pub can_take_edge : Reading → ℕ → ℕ → Bool
+can_take_edge r u v = is_live_in r.allocated u && (is_live_in r.allocated v && is_behind (last_of r.pairs) u v)
+
 abbrev pub take_edge : ℕ → ℕ → ℕ → Reading → Option Reading
-take_edge m u v r =
-    if is_live_in r.allocated u && (is_live_in r.allocated v && is_behind (last_of r.pairs) u v)
-    then Some (record r { due = Edges m; pairs = r.pairs ++ (u, v) ∷ [] }) else None
+take_edge m u v r = if can_take_edge r u v then Some (record r { due = Edges m; pairs = r.pairs ++ (u, v) ∷ [] }) else None
+
+-- whether a view of the index may come next, where there are so many views
+abbrev pub can_take_view : Reading → ℕ → Via → Bool
+can_take_view r n via = nat_lt (length r.views) n && follows r.k (last_via r.views) via
 
 abbrev pub take_view : ℕ → Via → Reading → Option Reading
 take_view n via r =
-    if nat_lt (length r.views) n && follows r.k (last_via r.views) via
+    if can_take_view r n via
     then Some (record r { due = Ranks (live_in r.allocated) n; views = r.views ++ record { via = via; ranks = [] } ∷ [] }) else None
 
 abbrev pub take_rank : ℕ → ℕ → ℕ → Reading → Option Reading

@@ -1,5 +1,5 @@
 -- How an index file is written. Each line ends with LF (10).
-use Rattle.std.specs.Prelude.{ℕ, zero, suc, ◌∷◌, ◌++◌, ◌&&◌, not, Bool, List, [], length, Option, None, Some, is_some, if◌then◌else◌, codes, decimal}
+use Rattle.std.specs.Prelude.{ℕ, zero, suc, ◌∷◌, ◌++◌, Bool, List, [], length, Option, None, Some, is_some, if◌then◌else◌, codes, decimal}
 use Rattle.graph_spec.specs.Graphs.{Graph, label_of, has_edge}
 use Rattle.graph_spec.specs.Shapes.{Shape}
 use Rattle.label_graph.specs.GraphViews.{edge_count}

@@ -1,10 +1,19 @@
-//! Index files: a graph and partitions of its nodes, written as text.
+//! Index files: a graph and partitions of its nodes, written and read as text.
 #![tactic(auto)]
 
+mod draft;
 mod due;
 mod graph_text;
+mod names;
+mod numbers;
+mod order;
 mod output;
+mod read_labels;
+mod read_nodes;
+mod read_views;
+mod reading;
 mod view_lines;
+mod words;
 
 pub use graph_text::head;
 pub use view_lines::view_text;

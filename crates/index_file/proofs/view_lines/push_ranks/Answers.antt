@@ -1,4 +1,4 @@
-use Rattle.std.proofs.Common.{◌≡◌, ◌++◌, sym, ◌∙◌, ap, append_assoc, arith, length}
+use Rattle.std.proofs.Common.{◌++◌, sym, ◌∙◌, ap, append_assoc, arith}
 use Rattle.std.specs.Prelude.{string_bytes}
 use Rattle.graph_spec.specs.Shapes.{shape_of}
 use Rattle.bisim_spec.specs.Tests.{together}

@@ -1,4 +1,4 @@
-use Rattle.std.proofs.Common.{◌≡◌, ◌<◌, length, sym, ◌∙◌, arith, Some, None}
+use Rattle.std.proofs.Common.{◌≡◌, sym, ◌∙◌, arith, Some, None}
 use Rattle.graph_spec.specs.Members.{at}
 use Rattle.bisim_spec.proofs.Together.{block_below}
 use Rattle.index_file.proofs.RankedBlocks.{step_some, text_some, text_none, ranks_none}

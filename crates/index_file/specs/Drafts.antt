@@ -1,0 +1,42 @@
+-- What was read of a file, as it is stored.
+use Rattle.std.specs.Prelude.{ℕ, ◌≤◌, ◌+◌, List, length, Option, refl}
+use Rattle.std.specs.Coded.{Coded, code_by, coded×, coded_ℕ, coded_list, coded_option}
+use Rattle.index_file.specs.declared.due.Due.{Due}
+use Rattle.index_file.specs.declared.due.Due.TheVariants.{Title, Given, Nodes, Edges, Ranks}
+use Rattle.index_file.specs.contracts.due.Due.{the_row as due_row}
+use Rattle.index_file.specs.Readings.{Reading, RankedView}
+use Rattle.index_file.specs.ReadViews.{read_views_code, last_ranks}
+
+-- how many numbers may still come
+abbrev pub nodes_left : Due → ℕ
+nodes_left Title = 4294967295
+nodes_left Given = 4294967295
+nodes_left (Nodes n) = n
+nodes_left (Edges m) = 0
+nodes_left (Ranks m n) = 0
+
+-- how many ranks of the last view are due
+abbrev pub ranks_left : Due → ℕ
+ranks_left Title = 0
+ranks_left Given = 0
+ranks_left (Nodes n) = 0
+ranks_left (Edges m) = 0
+ranks_left (Ranks m n) = m
+
+-- the numbers, and the ranks of the last view, are fewer than 2^32 with those that are to come
+pub record IsDraft (r : Reading) : Type 0 where
+  pub level : r.k ≤ 8
+  pub few_nodes : length r.allocated + nodes_left r.due ≤ 4294967295
+  pub few_ranks : length (last_ranks r.views) + ranks_left r.due ≤ 4294967295
+
+-- what was read is stored as its parts
+abbrev pub reading_code : Coded Reading
+reading_code =
+    code_by (Due × (ℕ × (List (Option (List ℕ)) × (List (ℕ × ℕ) × List RankedView))))
+    (coded× due_row.coded
+    (coded× coded_ℕ
+    (coded× (coded_list (coded_option (coded_list coded_ℕ)))
+    (coded× (coded_list (coded× coded_ℕ coded_ℕ)) read_views_code))))
+    (λ r. (r.due, (r.k, (r.allocated, (r.pairs, r.views)))))
+    (λ p. record { due = p.0; k = p.1.0; allocated = p.1.1.0; pairs = p.1.1.1.0; views = p.1.1.1.1 })
+    (λ _. refl)

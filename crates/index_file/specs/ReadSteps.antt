@@ -1,0 +1,79 @@
+-- What the steps of reading a file do, and what their answers say.
+use Rattle.std.specs.Prelude.{◌≡◌, ◌≢◌, ℕ, ◌<◌, ◌≤◌, ⊤, Bool, true, false, IsTrue, List, Option, None, Some, Result, Err, IfOk, IfErr, IsErrOf}
+use Rattle.px_base.specs.declared.lines.TheConstants.{LINE_BYTES, GRAPH_BYTES}
+use Rattle.px_base.specs.Causes.{MayHaveRisen}
+use Rattle.px_base.specs.Files.{File, content_of}
+use Rattle.px_base.specs.ReaderStates.{ReaderState, stream}
+use Rattle.graph_spec.specs.Lines.{cut}
+use Rattle.graph_spec.specs.declared.limits.Limits.{Limits}
+use Rattle.index_file.specs.declared.reading.SavedError.{SavedError}
+use Rattle.index_file.specs.declared.reading.SavedError.TheVariants as error
+use Rattle.index_file.specs.Readings.{Reading}
+use Rattle.index_file.specs.Reads.{Outcome, syntax, limit, Place, Ends, ReadsFrom, Reads, IsOver, IsWrong}
+
+-- The name is that of an observable file whose text gives this; of opaque files it says nothing.
+abbrev pub ReadsObservable : Limits → Option (List File) → List ℕ → Outcome → Type 0
+ReadsObservable limits None name o = ⊤
+ReadsObservable limits (Some files) name o = (text : List ℕ) × (content_of files name ≡ Some text) × Reads limits text o
+
+-- observable files lack the name
+abbrev pub LacksFile : Option (List File) → List ℕ → Type 0
+LacksFile None name = ⊤
+LacksFile (Some files) name = content_of files name ≡ None
+
+-- the outcome that an error tells; memory that ran out and a call that failed tell none
+abbrev pub TellsOutcome : (Outcome → Type 0) → SavedError → Type 0
+TellsOutcome P (error.Syntax l) = P (syntax l)
+TellsOutcome P (error.Limit l) = P (limit l)
+TellsOutcome P error.Missing = ⊤
+TellsOutcome P error.Fault = ⊤
+TellsOutcome P error.Memory = ⊤
+
+-- why the line of that number isn't taken
+abbrev pub TellsLine : Limits → List ℕ → ℕ → Reading → SavedError → Type 0
+TellsLine limits line number r (error.Syntax l) = (l ≡ number) × IsWrong limits line r
+TellsLine limits line number r (error.Limit l) = (l ≡ number) × IsOver limits line r
+TellsLine limits line number r error.Missing = ⊥
+TellsLine limits line number r error.Fault = ⊥
+TellsLine limits line number r error.Memory = ⊤
+
+-- what lies ahead gives this, where it is observable
+abbrev pub ReadsAhead : Limits → Option (List ℕ) → Place → Outcome → Type 0
+ReadsAhead limits None p o = ⊤
+ReadsAhead limits (Some text) p o = ReadsFrom limits (cut text) p o
+
+-- how far a file is read, where this is read of it
+abbrev pub place : ReaderState → Reading → Place
+place r reading = record { reading = reading; lines = r.number; bytes = r.taken }
+
+-- what the reader and the shelf have left gives this outcome, where this is read
+abbrev pub ReadsRest : Limits → ReaderState → Option (List ℕ) → Reading → Outcome → Type 0
+ReadsRest limits r left reading o = ReadsAhead limits (stream r left) (place r reading) o
+
+-- the reader has the limits of a graph file, can read on, and took a byte or more with each line
+pub record CanRead (r : ReaderState) (is_open : Bool) : Type 0 where
+  pub ready : r.failed ≡ false
+  pub line_limit : r.line_limit ≡ LINE_BYTES
+  pub text_limit : r.text_limit ≡ GRAPH_BYTES
+  pub counted : r.number ≤ r.taken
+  pub within : r.taken ≤ GRAPH_BYTES
+  pub opened : IsTrue is_open
+
+-- What became of a line. True: it was taken, and what is read of the text behind it is read of the text. False: the
+-- text is over, and what comes of an end here is read of it.
+abbrev pub GoesOn : Limits → Option (List ℕ) → Place → Option (List ℕ) → Place → Bool → Type 0
+GoesOn limits before p after q true = (o : Outcome) → ReadsAhead limits after q o → ReadsAhead limits before p o
+GoesOn limits before p after q false = (q.reading ≡ p.reading) × (q.lines ≡ p.lines) × ((o : Outcome) → Ends p o → ReadsAhead limits before p o)
+
+-- What a call that reads on does to the reader, to what was read and to the shelf. Of a shelf the functions give what
+-- is left of the open file, whether one is open, the files, and the count of faults.
+pub record ReadsOn {S : Type 0} (limits : Limits) (left : S → Option (List ℕ)) (is_open : S → Bool) (files : S → Option (List File)) (faults : S → ℕ)
+    (r q : ReaderState) (read reads : Reading) (old new : S) (result : Result Bool SavedError) : Type 0 where
+  pub goes : IfOk result (GoesOn limits (stream r (left old)) (place r read) (stream q (left new)) (place q reads))
+  pub can : IfOk result (λ more. IsTrue more → CanRead q (is_open new))
+  pub nearer : IfOk result (λ more. IsTrue more → (r.taken < q.taken) × (q.taken ≤ GRAPH_BYTES))
+  pub refused : IfErr result (TellsOutcome (ReadsAhead limits (stream r (left old)) (place r read)))
+  pub found : result ≢ Err error.Missing
+  pub same : files new ≡ files old
+  pub fault : IsErrOf result error.Fault → MayHaveRisen (faults old) (faults new)
+  pub no_fault : result ≢ Err error.Fault → faults new ≡ faults old

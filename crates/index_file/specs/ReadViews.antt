@@ -1,0 +1,24 @@
+-- The views of a file as they are read.
+use Rattle.std.specs.Prelude.{ℕ, ◌≡◌, List, [], ◌∷◌, refl}
+use Rattle.std.specs.Coded.{Coded, code_by, coded×, coded_ℕ, coded_list}
+use Rattle.index_api.specs.declared.kinds.Via.{Via}
+use Rattle.index_api.specs.contracts.kinds.Via.{the_row as via_row}
+use Rattle.index_file.specs.Readings.{RankedView, next_rank}
+
+-- the ranks of the last view
+abbrev pub last_ranks : List RankedView → List ℕ
+last_ranks [] = []
+last_ranks (v ∷ []) = v.ranks
+last_ranks (v ∷ w ∷ ws) = last_ranks (w ∷ ws)
+
+-- next is one more than the greatest rank of the last view
+abbrev pub AreReadViews : List RankedView → ℕ → Type 0
+AreReadViews views next = next ≡ next_rank 0 (last_ranks views)
+
+-- a view is stored as its two parts
+abbrev pub ranked_view_code : Coded RankedView
+ranked_view_code =
+    code_by (Via × List ℕ) (coded× via_row.coded (coded_list coded_ℕ)) (λ v. (v.via, v.ranks)) (λ p. record { via = p.0; ranks = p.1 }) (λ _. refl)
+
+abbrev pub read_views_code : Coded (List RankedView)
+read_views_code = coded_list ranked_view_code
