@@ -1,7 +1,7 @@
 // What lines spell.
-use super::*;
 use index_api::{Kind, Via};
 use px_base::{Limits, Text};
+use script_read::{Command, ScriptError, read};
 use std::alloc::Global;
 use std::test::Fail;
 
