@@ -1,4 +1,3 @@
-pub mod PlaceLaws
 pub mod ChangeLaws
 pub mod SoundSteps
 pub mod EdgeSteps
@@ -6,5 +5,6 @@ pub mod KnownTriples
 pub mod AddTriple
 pub mod FoundAgain
 pub mod LineSteps
+pub mod LoadedTriples
 pub mod OneOutcome
 mod Examples

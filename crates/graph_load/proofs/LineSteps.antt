@@ -21,7 +21,7 @@ use Rattle.graph_load.specs.declared.loader.Loader.{Loader}
 use Rattle.graph_spec.specs.declared.refusal.Refusal.{Refusal}
 use Rattle.graph_load.specs.TripleGraphs.{LoadState, nothing_loaded, with_triple}
 use Rattle.graph_load.specs.Loads.{Outcome, loaded, syntax, limit, Place, at_start, past, IsWithinFile, LoadsLine, empty, takes, refuses, neither, LoadsFrom}
-use Rattle.graph_load.specs.Loaders.{load_state, Holds, with_new, IsSoundLoader, IsTaken}
+use Rattle.graph_load.specs.Loaders.{load_state, Holds, IsSoundLoader, IsTaken}
 use Rattle.graph_load.specs.LoadSteps.{LoadsObservable, LoadsAhead, TellsOutcome, place, OnLines, at_line, then_load, with_one, with_all, LoadsBehind, LoadsThen, AddsLine, ReadsLines, IsNearer, AreLoaded, Stops, OneStops}
 
 -- the outcome of the first line decides
@@ -186,7 +186,7 @@ reads_over r q before after over waited limits l o h =
 -- the first ones are loaded
 pub record AreLeft (limits : Limits) (ws : List Waiting) (n : ℕ) (old new : Loader) : Type 0 where
   pub sound : IsSoundLoader new
-  pub does : (triples : List Triple) → Holds old triples → (more : List Triple) × Holds new more × (with_all limits ws (load_state old triples) ≡ with_all limits (drop n ws) (load_state new more))
+  pub does : (triples : List (Triple × ℕ)) → Holds old triples → (more : List (Triple × ℕ)) × Holds new more × (with_all limits ws (load_state old triples) ≡ with_all limits (drop n ws) (load_state new more))
 
 pub left_all : (limits : Limits) (ws : List Waiting) (r : Loader) → IsSoundLoader r → AreLeft limits ws 0 r r
 left_all limits ws r sound = record { sound = sound; does = λ triples holds. (triples, holds, refl) }
@@ -205,11 +205,12 @@ module _ (limits : Limits) (ws : List Waiting) (n : ℕ) (old r : Loader) (left 
     left_next new taken = record {
       sound = taken.sound;
       does = λ triples holds.
-          let d = left.does triples holds in (
-            with_new d.0 (triple_of w.triple),
-            taken.holds d.0 d.1,
+          let d = left.does triples holds in
+          let e = taken.does d.0 d.1 in (
+            e.0,
+            e.1,
             d.2 ∙ ap (λ x. with_all limits x (load_state r d.0)) (drop_more ws n w h ∙ ap (λ v. v ∷ drop (n + 1) ws) (sym is))
-                ∙ ap (λ x. then_load (at_line w.line x) (with_all limits (drop (n + 1) ws))) (taken.does d.0 d.1),
+                ∙ ap (λ x. then_load (at_line w.line x) (with_all limits (drop (n + 1) ws))) e.2,
           );
     }
 

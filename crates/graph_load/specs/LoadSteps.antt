@@ -131,8 +131,8 @@ pub record ReadsOn {S : Type 0} (left : S → Option (List ℕ)) (is_open : S �
 -- the triples that waited are loaded
 pub record AreLoaded (limits : Limits) (waited : List Waiting) (old new : Loader) : Type 0 where
   pub sound : IsSoundLoader new
-  pub does : (triples : List Triple) → Holds old triples
-      → (more : List Triple) × Holds new more × (with_all limits waited (load_state old triples) ≡ Ok (load_state new more))
+  pub does : (triples : List (Triple × ℕ)) → Holds old triples
+      → (more : List (Triple × ℕ)) × Holds new more × (with_all limits waited (load_state old triples) ≡ Ok (load_state new more))
 
 -- a triple is refused, and the number of its line decides
 abbrev pub Stops : Limits → Waiting → Loader → Outcome → Type 0
@@ -141,4 +141,4 @@ Stops limits w r o = (o ≡ limit w.line) × IsUntaken limits (triple_of w.tripl
 -- one of the triples that waited is
 abbrev pub OneStops : Limits → List Waiting → Loader → Outcome → Type 0
 OneStops limits waited r o =
-    (triples : List Triple) → Holds r triples → (n : ℕ) × (o ≡ limit n) × (with_all limits waited (load_state r triples) ≡ Err n)
+    (triples : List (Triple × ℕ)) → Holds r triples → (n : ℕ) × (o ≡ limit n) × (with_all limits waited (load_state r triples) ≡ Err n)

@@ -7,10 +7,8 @@ mod batch;
 mod batch_loader;
 mod files;
 mod hashed;
-mod known;
 mod limited_changes;
 mod loader;
-mod predicates;
 mod term_changes;
 
 pub use files::{LoadError, load};
