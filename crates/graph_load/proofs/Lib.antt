@@ -6,5 +6,6 @@ pub mod AddTriple
 pub mod FoundAgain
 pub mod LineSteps
 pub mod LoadedTriples
+pub mod LoadedTexts
 pub mod OneOutcome
 mod Examples

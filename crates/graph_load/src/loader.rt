@@ -3,6 +3,7 @@ ghost use Rattle.std.specs.Prelude.{◌≡◌, ℕ, List, [], length, position, 
 ghost use Rattle.change_spec.specs.Steps.{node, link};
 ghost use Rattle.graph_load.specs.TripleGraphs.{need, changed, linked, with_triple, nothing_loaded};
 ghost use Rattle.triple_names.specs.Items.{predicate_label};
+ghost use Rattle.triple_names.specs.TableIndexes.{names_by};
 ghost use Rattle.term_table.specs.Terms.{number_of, place_in};
 ghost use Rattle.term_table.specs.FoundTerms.{IsFound, IsFoundAs};
 ghost use Rattle.triples_read.specs.declared.term.Term.{Term as TermSeen};
@@ -19,7 +20,7 @@ use label_graph::Graph;
 use px_base::{Limits, Memory, NodeId, Text};
 use std::alloc::Global;
 use term_table::{Found, HashedTerm, TermTable};
-use triple_names::{Key, Predicates, TripleTable};
+use triple_names::{Key, Names, Predicates, TripleTable};
 
 /// The graph of the triples that were taken, and the tables by which their terms and the triples are found.
 #[derive(Drop)]
@@ -61,6 +62,16 @@ impl Loader {
         ensures { result ≡ self.graph }
     {
         self.graph
+    }
+
+    /// The graph, and the numbers of what is loaded.
+    pub(crate) fn into_parts(self) -> (Graph, Names)
+        requires { IsSoundLoader self }
+        ensures graph { result.0 ≡ self.graph }
+        ensures names { result.1 ≡ names_by self.terms self.predicates self.known }
+    {
+        let names = Names::from_tables(self.terms, self.predicates, self.known);
+        (self.graph, names)
     }
 
     // Where the parts of a triple stand. The hints are tried first.
