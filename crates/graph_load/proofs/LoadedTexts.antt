@@ -1,12 +1,12 @@
 -- A text that loads gives a graph that represents the triples of its lines.
-use Rattle.std.proofs.Common.{◌≡◌, ◌⊎◌, ℕ, ◌+◌, Bool, true, false, ◌||◌, List, [], ◌∷◌, Option, None, Some, Ok, Err, refl, sym, ap, ◌∙◌, subst, inl, inr, is_some}
+use Rattle.std.proofs.Common.{◌≡◌, ◌⊎◌, ℕ, zero, suc, ◌+◌, Bool, true, false, ◌||◌, List, [], ◌∷◌, Option, None, Some, refl, sym, ap, ◌∙◌, subst, inl, inr, is_some, true≢false}
 use Rattle.std.specs.Prelude.{IsTrue, ◌↔◌}
 use Rattle.std.specs.List.{IsDistinct}
 use Rattle.std.specs.Map.{keys_of}
 use Rattle.std.specs.FinSet as set
 use Rattle.std.proofs.lemmas.Bool.{or_cases, or_left, or_right}
 use Rattle.graph_spec.specs.declared.limits.Limits.{Limits}
-use Rattle.graph_spec.specs.Graphs.{Graph, edge_cmp}
+use Rattle.graph_spec.specs.Graphs.{Graph, empty_graph, edge_cmp, is_live}
 use Rattle.graph_spec.specs.Lines.{Line, cut}
 use Rattle.triples_read.specs.Lines.{Spells, Empty}
 use Rattle.triples_read.proofs.OneTriple.{one_reading, spelled_not_empty}
@@ -29,22 +29,32 @@ use Rattle.graph_load.proofs.LineSteps.{file_ends, observable_there}
 use Rattle.graph_load.proofs.LoadedTriples.{IsRepresented, IsLoadedWith, load_keeps}
 
 -- nothing is loaded, and nothing is represented
+none_live : (m : ℕ) → is_live empty_graph m ≡ false
+none_live zero = refl
+none_live (suc m) = refl
+
+none_numbered : (p : Item) → number_in (names_of nothing_loaded) p ≡ None
+none_numbered (of_term x) = refl
+none_numbered (of_triple t) = refl
+
+none_distinct : IsDistinct same_triple []
 unfolding IsDistinct
+none_distinct = tt
 
 nothing_represented : IsRepresented nothing_loaded
 nothing_represented = record {
   represents = record {
-    distinct = tt;
-    spelled = λ t h. absurd (cc);
+    distinct = none_distinct;
+    spelled = λ t h. absurd (true≢false (sym h));
     image = record {
-      labelled = λ p h. absurd (cc);
-      once = λ m p q h k. absurd (cc);
-      all = λ m h. absurd (cc);
-      edges = λ u v. ((λ h. absurd (let k = set.contains-empty edge_cmp (u, v) in cc)), (λ w. absurd (let h = w.2 in cc)));
-      gone = λ p m h k. absurd (cc);
+      labelled = λ p h. absurd (true≢false (sym h));
+      once = λ m p q h k. absurd (true≢false (sym h));
+      all = λ m h. absurd (true≢false (sym h ∙ none_live m));
+      edges = λ u v. ((λ h. absurd (true≢false (sym h ∙ set.contains-empty edge_cmp (u, v)))), (λ w. absurd (true≢false (sym w.2))));
+      gone = λ p m h k. absurd (true≢false (sym (ap is_some (sym (none_numbered p) ∙ k))));
     };
   };
-  named_parts = λ p. refl;
+  named_parts = λ p. ap is_some (none_numbered p);
 }
 
 -- the triples afterwards are those before and those of the lines
@@ -93,23 +103,34 @@ adds_one l m after x xs u spells one a = record {
     among : (t : Triple) → is_among (keys_of m.triples) t ≡ (is_among (keys_of l.triples) t || same_triple t u)
     among t = ap (λ ts. is_among ts t) one.triples ∙ any_with (same_triple t) (keys_of l.triples) u
 
-lines_add : (limits : Limits) (ls : List Line) (p : Place) (o : Ending) (l : LoadState) → IsRepresented p.state → LoadsFrom limits ls p o → o ≡ loaded l → Adds p.state ls l
-lines_add limits [] p o l r h e = subst (Adds p.state []) (same_state p.state l (sym h ∙ e)) (adds_none p.state r)
-lines_add limits (x ∷ xs) p o l r (inl (long, is)) e = absurd (let z : limit (p.lines + 1) ≡ loaded l = sym is ∙ e in cc)
-lines_add limits (x ∷ xs) p o l r (inr (within, line)) e = by o line e
-  where
-    by : (o : Ending) → LoadsLine limits p x (LoadsFrom limits xs) o → o ≡ loaded l → Adds p.state (x ∷ xs) l
-    by _ (empty none o rest) e = adds_empty p.state l x xs none (lines_add limits xs (past p x p.state) o l r rest e)
-    by _ (takes t spells m made o rest) e =
-        let one = load_keeps limits t p.state m r (x.text, spells) made in
-        adds_one p.state m l x xs t spells one (lines_add limits xs (past p x m) o l one.represented rest e)
-    by _ (refuses t spells why stop) e = absurd (let z : limit (p.lines + 1) ≡ loaded l = e in cc)
-    by _ (neither nothing none) e = absurd (let z : syntax (p.lines + 1) ≡ loaded l = e in cc)
+abbrev is_whole : Ending → Bool
+is_whole (loaded l) = true
+is_whole (syntax n) = false
+is_whole (limit n) = false
+
+refused_not : (e : Ending) (l : LoadState) → is_whole e ≡ false → e ≡ loaded l → ⊥
+refused_not e l off is = true≢false (sym (ap is_whole is) ∙ off)
+
+-- one line, and those behind it
+line_adds : (limits : Limits) (l : LoadState) (p : Place) (x : Line) (xs : List Line) (rest : Place → Ending → Type 0)
+    → ((q : Place) (e : Ending) → IsRepresented q.state → rest q e → e ≡ loaded l → Adds q.state xs l)
+    → (e : Ending) → IsRepresented p.state → LoadsLine limits p x rest e → e ≡ loaded l → Adds p.state (x ∷ xs) l
+line_adds limits l p x xs rest more _ r (empty none e h) is = adds_empty p.state l x xs none (more (past p x p.state) e r h is)
+line_adds limits l p x xs rest more _ r (takes t spells m made e h) is =
+    let one = load_keeps limits t p.state m r (x.text, spells) made in
+    adds_one p.state m l x xs t spells one (more (past p x m) e one.represented h is)
+line_adds limits l p x xs rest more _ r (refuses t spells why stop) is = absurd (refused_not (limit (p.lines + 1)) l refl is)
+line_adds limits l p x xs rest more _ r (neither nothing none) is = absurd (refused_not (syntax (p.lines + 1)) l refl is)
+
+lines_add : (limits : Limits) (l : LoadState) (ls : List Line) (p : Place) (e : Ending) → IsRepresented p.state → LoadsFrom limits ls p e → e ≡ loaded l → Adds p.state ls l
+lines_add limits l [] p e r h is = subst (Adds p.state []) (same_state p.state l (sym h ∙ is)) (adds_none p.state r)
+lines_add limits l (x ∷ xs) p e r (inl (long, stop)) is = absurd (refused_not (limit (p.lines + 1)) l refl (sym stop ∙ is))
+lines_add limits l (x ∷ xs) p e r (inr (within, line)) is = line_adds limits l p x xs (LoadsFrom limits xs) (lines_add limits l xs) e r line is
 
 -- the loaded graph represents the triples of the text, with the numbers that were given
 pub text_represented : (limits : Limits) (text : List ℕ) (l : LoadState) (n : Names) → LoadsFrom limits (cut text) at_start (loaded l) → ((p : Item) → number_in n p ≡ number_in (names_of l) p) → RepresentsText text l.graph n
 text_represented limits text l n h same =
-    let a = lines_add limits (cut text) at_start (loaded l) l nothing_represented h refl in
+    let a = lines_add limits l (cut text) at_start (loaded l) nothing_represented h refl in
     let r = a.represented.represents in (
       keys_of l.triples,
       record {
@@ -117,7 +138,7 @@ text_represented limits text l n h same =
         spelled = r.spelled;
         image = image_by l.graph (number_in (names_of l)) (number_in n) _ _ _ _ (λ p. sym (same p)) (λ q. refl) (λ b c. refl) r.image;
       },
-      (λ t. ((λ k. elim (a.into t k) [ inl none ↦ absurd (cc) | inr there ↦ there ]), (λ there. a.back t (inr there)))),
+      (λ t. ((λ k. elim (a.into t k) [ inl none ↦ absurd (true≢false (sym none)) | inr there ↦ there ]), (λ there. a.back t (inr there)))),
     )
 
 -- what the open file loads to, the file of that name loads to
