@@ -3,9 +3,9 @@ use Rattle.std.specs.Prelude.{bytes_eq}
 use Rattle.std.specs.Map.{keys_of}
 use Rattle.std.proofs.lemmas.List.{length-append, length-map}
 use Rattle.indexmap.proofs.CallerLemmas.{insert_entry-new}
-use Rattle.graph_load.specs.TableIndexes.{AddLabels}
-use Rattle.graph_load.proofs.PlaceLaws.{added_labels, keys_push, lookup_none}
-use Rattle.graph_load.proofs.predicates.Predicates.add.Goals as goal
+use Rattle.triple_names.specs.TableIndexes.{AddLabels}
+use Rattle.triple_names.proofs.PlaceLaws.{added_labels, keys_push, lookup_none}
+use Rattle.triple_names.proofs.predicates.Predicates.add.Goals as goal
 
 pub invariant_of-self-2 : goal.invariant_of-self-2
 invariant_of-self-2 c =

@@ -3,7 +3,7 @@ use Rattle.std.specs.Map.{keys_of}
 use Rattle.std.proofs.lemmas.Option.{slice_get-map}
 use Rattle.std.proofs.lemmas.Slice.Eq.{bytes_eq-Decides}
 use Rattle.label_graph.proofs.Positions.{position-at}
-use Rattle.graph_load.proofs.predicates.Predicates.is_at.Goals as goal
+use Rattle.triple_names.proofs.predicates.Predicates.is_at.Goals as goal
 
 pub returns-in-Some : goal.returns-in-Some
 returns-in-Some c h =

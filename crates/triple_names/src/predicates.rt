@@ -2,8 +2,8 @@
 ghost use Rattle.std.specs.Prelude.{◌≡◌, ◌<◌, ◌^◌, ◌++◌, ◌∷◌, [], length, position, bytes_eq, Some, None, OnOk, IfOk, IfSome, false, true};
 ghost use Rattle.std.specs.List.{list_any};
 ghost use Rattle.change_spec.specs.Steps.{node};
-ghost use Rattle.graph_load.specs.TripleGraphs.{predicate_label};
-ghost use Rattle.graph_load.specs.TableIndexes.{predicate_at, with_predicate};
+ghost use Rattle.triple_names.specs.Items.{predicate_label};
+ghost use Rattle.triple_names.specs.TableIndexes.{predicate_at, with_predicate};
 
 use graph_update::{Change, Step};
 use indexmap::IndexMap;
@@ -15,14 +15,14 @@ use triples_read::{Term, write_term};
 /// The predicates, each once, in the order in which they came. Beside each stands the change that adds the
 /// node of a triple with it, so that a label is spelled once and not for each triple. They are found by hash.
 #[derive(Drop)]
-pub(crate) struct Predicates {
+pub struct Predicates {
     table: IndexMap<Text, Change>,
 }
 
 impl Model for Predicates {
     ghost use Rattle.std.specs.Prelude.{List, ℕ, ◌≤◌, ◌^◌, length};
     ghost use Rattle.std.specs.Map.{keys_of};
-    ghost use Rattle.graph_load.specs.TableIndexes.{AddLabels};
+    ghost use Rattle.triple_names.specs.TableIndexes.{AddLabels};
 
     ghost Value = { List (List ℕ) };
 
@@ -41,7 +41,7 @@ fn node_by(alloc: Global, predicate: &Text) -> Result<Change, Memory>
 
 impl Predicates {
     /// No predicates.
-    pub(crate) fn new(alloc: Global) -> Predicates
+    pub fn new(alloc: Global) -> Predicates
         ensures { result ≡ [] }
     {
         Predicates {
@@ -50,14 +50,14 @@ impl Predicates {
     }
 
     /// How many there are.
-    pub(crate) fn len(&self) -> u32
+    pub fn len(&self) -> u32
         ensures { result ≡ length self.now }
     {
         self.table.len() as u32
     }
 
     /// The place of the predicate.
-    pub(crate) fn find(&self, iri: &Text) -> Option<u32>
+    pub fn find(&self, iri: &Text) -> Option<u32>
         ensures { result ≡ position (bytes_eq iri.now) self.now }
     {
         let place = self.table.get_index_of(iri)?;
@@ -77,7 +77,7 @@ impl Predicates {
     }
 
     /// The place of the predicate. A place where it may stand is tried first.
-    pub(crate) fn find_hinted(&self, iri: &Text, hint: Option<u32>) -> Option<u32>
+    pub fn find_hinted(&self, iri: &Text, hint: Option<u32>) -> Option<u32>
         ensures { result ≡ position (bytes_eq iri.now) self.now }
     {
         match hint {
@@ -87,7 +87,7 @@ impl Predicates {
     }
 
     /// The change that adds the node of a triple with the predicate at that place.
-    pub(crate) fn node(&self, place: u32) -> &Change
+    pub fn node(&self, place: u32) -> &Change
         requires { place < length self.now }
         ensures { result.now ≡ node (predicate_label (predicate_at self.now place)) ∷ [] }
     {
@@ -109,12 +109,7 @@ impl Predicates {
     }
 
     /// The place of the predicate, which may be known. The predicate is put in where it isn't there.
-    pub(crate) fn intern(
-        &mut self,
-        alloc: Global,
-        iri: &Text,
-        found: Option<u32>,
-    ) -> Result<u32, Memory>
+    pub fn intern(&mut self, alloc: Global, iri: &Text, found: Option<u32>) -> Result<u32, Memory>
         requires few { length self.old < 2 ^ 30 }
         requires found { IfSome found (λ p. position (bytes_eq iri.now) self.old ≡ Some p) }
         ensures added { OnOk result (self.new ≡ with_predicate self.old iri.now) }

@@ -10,8 +10,8 @@ use Rattle.std.proofs.lemmas.List.Quantifiers.{position-Some}
 use Rattle.std.proofs.lemmas.Option.{unwrap_or-slice_get}
 use Rattle.change_spec.specs.Steps.{Step, node}
 use Rattle.term_table.proofs.Positions.{position-cons}
-use Rattle.graph_load.specs.TripleGraphs.{predicate_label}
-use Rattle.graph_load.specs.TableIndexes.{stands, AddLabels, predicate_at, with_predicate}
+use Rattle.triple_names.specs.Items.{predicate_label}
+use Rattle.triple_names.specs.TableIndexes.{stands, AddLabels, predicate_at, with_predicate}
 use Rattle.term_table.proofs.SameTerms.{same_bytes}
 
 -- whether the place is this one

@@ -1,8 +1,8 @@
 use Rattle.std.proofs.Common.{◌∙◌, ◌++◌, ◌∷◌, [], ap, sym, Some}
 use Rattle.std.specs.Prelude.{position, bytes_eq}
-use Rattle.graph_load.proofs.PlaceLaws.{none_passes, position_push, predicate_there, predicate_new, predicate_is_at}
+use Rattle.triple_names.proofs.PlaceLaws.{none_passes, position_push, predicate_there, predicate_new, predicate_is_at}
 use Rattle.term_table.proofs.SameTerms.{bytes_same}
-use Rattle.graph_load.proofs.predicates.Predicates.intern.Goals as goal
+use Rattle.triple_names.proofs.predicates.Predicates.intern.Goals as goal
 
 pub returns-in-Some-clause-added : goal.returns-in-Some-clause-added
 returns-in-Some-clause-added c = predicate_there c.args.self.now c.args.iri.now c.in-Some.place (rw c.in-Some.is at c.requires.found)
