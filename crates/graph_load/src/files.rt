@@ -175,7 +175,6 @@ fn load_file<H: Shelf>(
 /// there is no file of that name, and `Fault` where a call on the shelf failed. Expected O(b) for a file of b
 /// bytes. Beside the graph it takes, while it loads, the bytes of the distinct terms and predicates with 36 to
 /// 40 more for each term, an entry of a hash table for each distinct triple, and the longest line.
-#[tactic(auto, using(crate::proofs::OneOutcome::one_outcome))]
 pub fn load<H: Shelf>(
     alloc: Global,
     shelf: &mut H,
@@ -204,7 +203,6 @@ pub fn load<H: Shelf>(
 /// As `load`, with the numbers of the terms and of the triples: the graph with them represents the triples of the text. The
 /// tables are those of the load. They keep the bytes of the distinct terms and predicates with 36 to 40 more for each term,
 /// and an entry of a hash table for each distinct triple.
-#[tactic(auto, using(crate::proofs::OneOutcome::one_outcome))]
 pub fn load_named<H: Shelf>(
     alloc: Global,
     shelf: &mut H,
