@@ -9,7 +9,8 @@ use Rattle.graph_spec.specs.Changes.{node_fits, edge_fits, with_node, with_edge}
 use Rattle.change_spec.specs.Steps.{node, link, apply}
 use Rattle.change_spec.proofs.SingleSteps.{one_step}
 use Rattle.triples_read.specs.declared.term.Term.{Term}
-use Rattle.graph_load.specs.TripleGraphs.{LoadState, with_graph, changed, numbered, need, term_label}
+use Rattle.triple_names.specs.Items.{term_label}
+use Rattle.graph_load.specs.TripleGraphs.{LoadState, with_graph, changed, numbered, need}
 use Rattle.term_table.specs.Terms.{number_of}
 
 abbrev value_or : {T E : Type 0} → T → Result T E → T

@@ -10,7 +10,7 @@ use Rattle.graph_load.specs.TripleGraphs.{need, changed, then_do, from_term, ont
 use Rattle.term_table.specs.Terms.{number_of, same_term}
 use Rattle.graph_load.specs.Loaders.{load_state, Grows, LoaderStep, IsStopped}
 use Rattle.term_table.specs.Entries.{Begins}
-use Rattle.graph_load.proofs.PlaceLaws.{lookup_append}
+use Rattle.triple_names.proofs.PlaceLaws.{lookup_append}
 
 begins_trans : {X : Type 0} (xs ys zs : List X) → Begins xs ys → Begins ys zs → Begins xs zs
 begins_trans xs ys zs h k = (h.0 ++ k.0, k.1 ∙ ap (λ l. l ++ k.0) h.1 ∙ append_assoc xs h.0 k.0)
@@ -27,7 +27,7 @@ number_stays old new grows x n h = ap (λ ts. number_of ts x) grows.terms.1 ∙ 
 
 module _ (limits : Limits) (x : Term) (n : ℕ) (y : Term) (old a : Loader) (from onto : ℕ)
     (is_from : number_of old.terms x ≡ Some from) (needs : LoaderStep (need limits y) old a) (is_onto : number_of a.terms y ≡ Some onto) where
-  first : (triples : List Triple) → linked limits x n y (load_state old triples) ≡ then_do (changed limits (link from n) (load_state a triples)) (onto_term limits n y)
+  first : (triples : List (Triple × ℕ)) → linked limits x n y (load_state old triples) ≡ then_do (changed limits (link from n) (load_state a triples)) (onto_term limits n y)
   first triples =
       ap (λ r. then_do r (λ l. then_do (from_term limits x n l) (onto_term limits n y))) (needs.does triples)
       ∙ ap (λ o. then_do (changed limits (link (unwrap_or o 0) n) (load_state a triples)) (onto_term limits n y)) (number_stays old a needs.grows x from is_from)
@@ -38,7 +38,7 @@ module _ (limits : Limits) (x : Term) (n : ℕ) (y : Term) (old a : Loader) (fro
       (s.0, first triples ∙ ap (λ r. then_do r (onto_term limits n y)) s.1)
 
   module _ (b : Loader) (links : LoaderStep (changed limits (link from n)) a b) where
-    second : (triples : List Triple) → linked limits x n y (load_state old triples) ≡ changed limits (link n onto) (load_state b triples)
+    second : (triples : List (Triple × ℕ)) → linked limits x n y (load_state old triples) ≡ changed limits (link n onto) (load_state b triples)
     second triples =
         first triples ∙ ap (λ r. then_do r (onto_term limits n y)) (links.does triples)
         ∙ ap (λ o. changed limits (link n (unwrap_or o 0)) (load_state b triples)) (number_stays a b links.grows y onto is_onto)

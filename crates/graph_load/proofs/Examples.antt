@@ -1,5 +1,5 @@
 -- The definitions at worked triples, and at near misses.
-use Rattle.std.proofs.Common.{◌≡◌, ◌∙◌, ap, true, false, ◌||◌, cond, ◌+◌, List, [], ◌∷◌, ◌++◌, refl, Result, None, Some, Ok, Err, lit≤}
+use Rattle.std.proofs.Common.{◌≡◌, ℕ, ◌∙◌, ap, true, false, ◌||◌, cond, ◌+◌, List, [], ◌∷◌, ◌++◌, refl, Result, None, Some, Ok, Err, lit≤}
 use Rattle.std.specs.Prelude.{codes, nat_lt, if◌then◌else◌}
 use Rattle.std.specs.FinSet as set
 use Rattle.std.proofs.Math.Bool.{or-true}
@@ -16,7 +16,8 @@ use Rattle.triples_read.specs.Lines.{xsd_string}
 use Rattle.triples_read.specs.declared.term.Term.{Term}
 use Rattle.triples_read.specs.declared.term.Term.TheVariants.{Iri, Blank, Literal}
 use Rattle.triples_read.specs.declared.term.Triple.{Triple}
-use Rattle.graph_load.specs.TripleGraphs.{LoadState, nothing_loaded, predicate_label, need, with_graph, then_do, onto_term, with_triple}
+use Rattle.graph_load.specs.TripleGraphs.{LoadState, nothing_loaded, need, with_graph, then_do, onto_term, with_triple}
+use Rattle.triple_names.specs.Items.{predicate_label}
 use Rattle.term_table.specs.Terms.{same_term}
 
 abbrev a : Term
@@ -36,15 +37,15 @@ nodes = record {
   seen = codes "iri" ∷ predicate_label (codes "p") ∷ [];
 }
 
-abbrev with_triples : Graph → List Triple → LoadState
+abbrev with_triples : Graph → List (Triple × ℕ) → LoadState
 with_triples g triples = record { graph = g; terms = (a, 0) ∷ (b, 2) ∷ []; triples = triples }
 
 -- and its two edges
 abbrev after_one : LoadState
-after_one = with_triples (with_edge (with_edge nodes 0 1) 1 2) (one ∷ [])
+after_one = with_triples (with_edge (with_edge nodes 0 1) 1 2) ((one, 1) ∷ [])
 
 abbrev last : LoadState → Result LoadState Refusal
-last l = Ok (record l { triples = l.triples ++ one ∷ [] })
+last l = Ok (record l { triples = l.triples ++ (one, 1) ∷ [] })
 
 first_fits : edge_fits nodes program_limits 0 1 ≡ true
 first_fits =

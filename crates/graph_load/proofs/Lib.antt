@@ -1,4 +1,3 @@
-pub mod PlaceLaws
 pub mod ChangeLaws
 pub mod SoundSteps
 pub mod EdgeSteps
@@ -6,5 +5,7 @@ pub mod KnownTriples
 pub mod AddTriple
 pub mod FoundAgain
 pub mod LineSteps
+pub mod LoadedTriples
+pub mod LoadedTexts
 pub mod OneOutcome
 mod Examples

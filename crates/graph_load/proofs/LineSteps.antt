@@ -20,18 +20,18 @@ use Rattle.graph_load.specs.Hashed.{triple_of, hashed}
 use Rattle.graph_load.specs.declared.loader.Loader.{Loader}
 use Rattle.graph_spec.specs.declared.refusal.Refusal.{Refusal}
 use Rattle.graph_load.specs.TripleGraphs.{LoadState, nothing_loaded, with_triple}
-use Rattle.graph_load.specs.Loads.{Outcome, loaded, syntax, limit, Place, at_start, past, IsWithinFile, LoadsLine, empty, takes, refuses, neither, LoadsFrom}
-use Rattle.graph_load.specs.Loaders.{load_state, Holds, with_new, IsSoundLoader, IsTaken}
-use Rattle.graph_load.specs.LoadSteps.{LoadsObservable, LoadsAhead, TellsOutcome, place, OnLines, at_line, then_load, with_one, with_all, LoadsBehind, LoadsThen, AddsLine, ReadsLines, IsNearer, AreLoaded, Stops, OneStops}
+use Rattle.graph_load.specs.Loads.{Ending, loaded, syntax, limit, outcome_of, Place, at_start, past, IsWithinFile, LoadsLine, empty, takes, refuses, neither, LoadsFrom}
+use Rattle.graph_load.specs.Loaders.{load_state, Holds, IsSoundLoader, IsTaken}
+use Rattle.graph_load.specs.LoadSteps.{LoadsObservable, FileEnds, LoadsAhead, TellsOutcome, place, OnLines, at_line, then_load, with_one, with_all, LoadsBehind, LoadsThen, AddsLine, ReadsLines, IsNearer, AreLoaded, Stops, OneStops}
 
 -- the outcome of the first line decides
-follows : (limits : Limits) (p : Place) (l : Line) (before after : Option (List ℕ)) (q : Place) (o : Outcome) → IsFirst l before after → IsWithinFile p l
+follows : (limits : Limits) (p : Place) (l : Line) (before after : Option (List ℕ)) (q : Place) (o : Ending) → IsFirst l before after → IsWithinFile p l
     → ((rest : List Line) → LoadsFrom limits rest q o → LoadsLine limits p l (LoadsFrom limits rest) o) → LoadsAhead limits after q o → LoadsAhead limits before p o
 follows limits p l None after q o first within step ahead = tt
 follows limits p l (Some text) None q o first within step ahead = absurd first
 follows limits p l (Some text) (Some rest) q o first within step ahead = subst (λ ls. LoadsFrom limits ls p o) (sym first) (inr (within, step (cut rest) ahead))
 
-stops : (limits : Limits) (p : Place) (l : Line) (before after : Option (List ℕ)) (o : Outcome) → IsFirst l before after → IsWithinFile p l
+stops : (limits : Limits) (p : Place) (l : Line) (before after : Option (List ℕ)) (o : Ending) → IsFirst l before after → IsWithinFile p l
     → ((rest : List Line) → LoadsLine limits p l (LoadsFrom limits rest) o) → LoadsAhead limits before p o
 stops limits p l None after o first within step = tt
 stops limits p l (Some text) None o first within step = absurd first
@@ -64,15 +64,15 @@ with_last limits (v ∷ ws) w l = behind (with_one limits v l) (with_last limits
 
 -- what holds of all that may be loaded holds of what the triples load to
 each : (limits : Limits) (r : ReaderState) (before : Option (List ℕ)) (next : Next) (q : ReaderState) (after : Option (List ℕ))
-    → ((m : LoadState) (o : Outcome) → LoadsBehind limits next q after m o → LoadsAhead limits before (place r m) o)
-    → (x : Result LoadState ℕ) (o : Outcome) → LoadsThen limits next q after x o → LoadsThen limits Lines r before x o
+    → ((m : LoadState) (o : Ending) → LoadsBehind limits next q after m o → LoadsAhead limits before (place r m) o)
+    → (x : Result LoadState ℕ) (o : Ending) → LoadsThen limits next q after x o → LoadsThen limits Lines r before x o
 each limits r before next q after f (Ok m) o h = f m o h
 each limits r before next q after f (Err n) o h = h
 
 -- and of one more
 each_last : (limits : Limits) (w : Waiting) (r : ReaderState) (before : Option (List ℕ)) (q : ReaderState) (after : Option (List ℕ))
-    → ((m : LoadState) (o : Outcome) → LoadsThen limits Lines q after (with_one limits w m) o → LoadsAhead limits before (place r m) o)
-    → (x : Result LoadState ℕ) (o : Outcome) → LoadsThen limits Lines q after (then_load x (with_one limits w)) o → LoadsThen limits Lines r before x o
+    → ((m : LoadState) (o : Ending) → LoadsThen limits Lines q after (with_one limits w m) o → LoadsAhead limits before (place r m) o)
+    → (x : Result LoadState ℕ) (o : Ending) → LoadsThen limits Lines q after (then_load x (with_one limits w)) o → LoadsThen limits Lines r before x o
 each_last limits w r before q after f (Ok m) o h = f m o h
 each_last limits w r before q after f (Err n) o h = h
 
@@ -105,13 +105,13 @@ module _ (r q : ReaderState) (before after : Option (List ℕ)) (reads : ReadsLi
 
   module _ (limits : Limits) where
     -- a line is empty
-    past_empty : Empty q.line → (l : LoadState) (o : Outcome) → LoadsAhead limits after (place q l) o → LoadsAhead limits before (place r l) o
+    past_empty : Empty q.line → (l : LoadState) (o : Ending) → LoadsAhead limits after (place q l) o → LoadsAhead limits before (place r l) o
     past_empty is_empty l o =
         follows limits (place r l) reads.first before after (place q l) o reads.observable (within l) (λ rest h.
         empty (subst Empty text_is is_empty) o (subst (λ p. LoadsFrom limits rest p o) (sym (behind l l)) h))
 
     -- a line spells a triple
-    past_triple : (t : Triple) → Spells q.line t → (l : LoadState) (o : Outcome) → LoadsThen limits Lines q after (with_one limits (record { triple = hashed t; line = q.number }) l) o → LoadsAhead limits before (place r l) o
+    past_triple : (t : Triple) → Spells q.line t → (l : LoadState) (o : Ending) → LoadsThen limits Lines q after (with_one limits (record { triple = hashed t; line = q.number }) l) o → LoadsAhead limits before (place r l) o
     past_triple t spells l o h = by (with_triple limits t l) refl h
       where
         by : (x : Result LoadState Refusal) → with_triple limits t l ≡ x → LoadsThen limits Lines q after (at_line q.number x) o → LoadsAhead limits before (place r l) o
@@ -123,7 +123,7 @@ module _ (r q : ReaderState) (before after : Option (List ℕ)) (reads : ReadsLi
             (stops limits (place r l) reads.first before after (limit (r.number + 1)) reads.observable (within l) (λ rest. refuses t (subst (λ x. Spells x t) text_is spells) e is))
 
     -- a line is neither
-    past_neither : (¬ Empty q.line) → ((t : Triple) → Spells q.line t → ⊥) → (l : LoadState) (o : Outcome) → o ≡ syntax q.number → LoadsAhead limits before (place r l) o
+    past_neither : (¬ Empty q.line) → ((t : Triple) → Spells q.line t → ⊥) → (l : LoadState) (o : Ending) → o ≡ syntax q.number → LoadsAhead limits before (place r l) o
     past_neither none nothing l o is =
         subst (LoadsAhead limits before (place r l)) (ap syntax (sym number_is) ∙ sym is)
         (stops limits (place r l) reads.first before after (syntax (r.number + 1)) reads.observable (within l)
@@ -177,16 +177,16 @@ pub reads_over : (r q : ReaderState) (before after : Option (List ℕ)) → IsOv
 reads_over r q before after over waited limits l o h =
     each limits r before End q after (λ m o is. subst (LoadsAhead limits before (place r m)) (sym is) (over_there limits m before over)) (with_all limits waited l) o h
   where
-    over_there : (limits : Limits) (m : LoadState) (observable : Option (List ℕ)) → IsOver observable → LoadsAhead limits observable (place r m) (loaded m.graph)
+    over_there : (limits : Limits) (m : LoadState) (observable : Option (List ℕ)) → IsOver observable → LoadsAhead limits observable (place r m) (loaded m)
     over_there limits m None over = tt
-    over_there limits m (Some text) over = subst (λ t. LoadsFrom limits (cut t) (place r m) (loaded m.graph)) (sym over) refl
+    over_there limits m (Some text) over = subst (λ t. LoadsFrom limits (cut t) (place r m) (loaded m)) (sym over) refl
 
 -- ---- the triples are loaded
 
 -- the first ones are loaded
 pub record AreLeft (limits : Limits) (ws : List Waiting) (n : ℕ) (old new : Loader) : Type 0 where
   pub sound : IsSoundLoader new
-  pub does : (triples : List Triple) → Holds old triples → (more : List Triple) × Holds new more × (with_all limits ws (load_state old triples) ≡ with_all limits (drop n ws) (load_state new more))
+  pub does : (triples : List (Triple × ℕ)) → Holds old triples → (more : List (Triple × ℕ)) × Holds new more × (with_all limits ws (load_state old triples) ≡ with_all limits (drop n ws) (load_state new more))
 
 pub left_all : (limits : Limits) (ws : List Waiting) (r : Loader) → IsSoundLoader r → AreLeft limits ws 0 r r
 left_all limits ws r sound = record { sound = sound; does = λ triples holds. (triples, holds, refl) }
@@ -205,15 +205,16 @@ module _ (limits : Limits) (ws : List Waiting) (n : ℕ) (old r : Loader) (left 
     left_next new taken = record {
       sound = taken.sound;
       does = λ triples holds.
-          let d = left.does triples holds in (
-            with_new d.0 (triple_of w.triple),
-            taken.holds d.0 d.1,
+          let d = left.does triples holds in
+          let e = taken.does d.0 d.1 in (
+            e.0,
+            e.1,
             d.2 ∙ ap (λ x. with_all limits x (load_state r d.0)) (drop_more ws n w h ∙ ap (λ v. v ∷ drop (n + 1) ws) (sym is))
-                ∙ ap (λ x. then_load (at_line w.line x) (with_all limits (drop (n + 1) ws))) (taken.does d.0 d.1),
+                ∙ ap (λ x. then_load (at_line w.line x) (with_all limits (drop (n + 1) ws))) e.2,
           );
     }
 
-    pub left_stops : (o : Outcome) → Stops limits w r o → OneStops limits ws old o
+    pub left_stops : (o : Ending) → Stops limits w r o → OneStops limits ws old o
     left_stops o (is_limit, untaken) triples holds =
         let d = left.does triples holds in (
           w.line,
@@ -223,23 +224,23 @@ module _ (limits : Limits) (ws : List Waiting) (n : ℕ) (old r : Loader) (left 
         )
 
 -- the outcome of a batch is one of what lay ahead
-pub batch_leads : (limits : Limits) (r q : ReaderState) (before after : Option (List ℕ)) (waited waits : List Waiting) (next : Next) (l : LoadState) (x : Result LoadState ℕ) (Q : Outcome → Type 0)
-    → waited ≡ [] → ReadsLines r waited before next q waits after → with_all limits waits l ≡ x → ((o : Outcome) → LoadsAhead limits before (place r l) o → Q o)
-    → (o : Outcome) → LoadsThen limits next q after x o → Q o
+pub batch_leads : (limits : Limits) (r q : ReaderState) (before after : Option (List ℕ)) (waited waits : List Waiting) (next : Next) (l : LoadState) (x : Result LoadState ℕ) (Q : Ending → Type 0)
+    → waited ≡ [] → ReadsLines r waited before next q waits after → with_all limits waits l ≡ x → ((o : Ending) → LoadsAhead limits before (place r l) o → Q o)
+    → (o : Ending) → LoadsThen limits next q after x o → Q o
 batch_leads limits r q before after waited waits next l x Q none reads does leads o h =
     leads o (subst (λ ws. LoadsThen limits Lines r before (with_all limits ws l) o) none (reads limits l o (subst (λ y. LoadsThen limits next q after y o) (sym does) h)))
 
-pub ahead_start : (limits : Limits) (left : Option (List ℕ)) (p : Place) (o : Outcome) → LoadsAhead limits (prepend_known [] left) p o → LoadsAhead limits left p o
+pub ahead_start : (limits : Limits) (left : Option (List ℕ)) (p : Place) (o : Ending) → LoadsAhead limits (prepend_known [] left) p o → LoadsAhead limits left p o
 ahead_start limits None p o h = tt
 ahead_start limits (Some text) p o h = h
 
 pub start_leads : (limits : Limits) (r : ReaderState) (l : Loader) (left : Option (List ℕ)) → r.ahead ≡ [] → r.number ≡ 0 → r.taken ≡ 0 → load_state l [] ≡ nothing_loaded
-    → (o : Outcome) → LoadsAhead limits (stream r left) (place r (load_state l [])) o → LoadsAhead limits left at_start o
+    → (o : Ending) → LoadsAhead limits (stream r left) (place r (load_state l [])) o → LoadsAhead limits left at_start o
 start_leads limits r l left ahead number taken nothing o h =
     ahead_start limits left at_start o (subst (λ (x : List ℕ). LoadsAhead limits (prepend_known x left) at_start o) ahead
     (subst (λ p. LoadsAhead limits (stream r left) p o) (place_same (place r (load_state l [])) at_start nothing number taken) h))
 
-pub tells_map : (P Q : Outcome → Type 0) → ((o : Outcome) → P o → Q o) → (e : LoadError) → TellsOutcome P e → TellsOutcome Q e
+pub tells_map : (P Q : Ending → Type 0) → ((o : Ending) → P o → Q o) → (e : LoadError) → TellsOutcome P e → TellsOutcome Q e
 tells_map P Q f (error.Syntax l) h = f (syntax l) h
 tells_map P Q f (error.Limit l) h = f (limit l) h
 tells_map P Q f error.Missing h = tt
@@ -247,15 +248,28 @@ tells_map P Q f error.Fault h = tt
 tells_map P Q f error.Memory h = tt
 
 -- an error that tells an outcome is one of those that a call may answer
-pub tells_none : (Q : Outcome → Type 0) → (e : LoadError) → TellsOutcome (λ _. ⊥) e → TellsOutcome Q e
+pub tells_none : (Q : Ending → Type 0) → (e : LoadError) → TellsOutcome {X = LoadState} (λ _. ⊥) e → TellsOutcome Q e
 tells_none Q = tells_map (λ _. ⊥) Q (λ o h. absurd h)
 
 -- what the open file loads to, its name loads to
-pub observable_there : (limits : Limits) (files : Option (List File)) (name : List ℕ) (left : Option (List ℕ)) → Finds files name true left
-    → (o : Outcome) → LoadsAhead limits left at_start o → LoadsObservable limits files name o
-observable_there limits None name left finds o h = tt
-observable_there limits (Some files) name None finds o h = absurd (none finds.0)
+pub file_ends : (limits : Limits) (files : Option (List File)) (name : List ℕ) (left : Option (List ℕ)) → Finds files name true left
+    → (e : Ending) → LoadsAhead limits left at_start e → FileEnds limits files name e
+file_ends limits None name left finds e h = tt
+file_ends limits (Some files) name None finds e h = absurd (none finds.0)
   where
     none : IsSome {T = List ℕ} None → ⊥
     none p = absurd (cc)
-observable_there limits (Some files) name (Some text) finds o h = (text, sym finds.1, h)
+file_ends limits (Some files) name (Some text) finds e h = (text, sym finds.1, h)
+
+pub observable_there : (limits : Limits) (files : Option (List File)) (name : List ℕ) (e : Ending) → FileEnds limits files name e → LoadsObservable limits files name (outcome_of e)
+observable_there limits None name e h = tt
+observable_there limits (Some files) name e (text, there, h) = (text, there, record { ending = e; ends = h; is = refl })
+
+-- so does the outcome that an error tells
+pub observable_tells : (limits : Limits) (files : Option (List File)) (name : List ℕ) (left : Option (List ℕ)) → Finds files name true left
+    → (e : LoadError) → TellsOutcome (LoadsAhead limits left at_start) e → TellsOutcome (LoadsObservable limits files name) e
+observable_tells limits files name left finds (error.Syntax n) h = observable_there limits files name (syntax n) (file_ends limits files name left finds (syntax n) h)
+observable_tells limits files name left finds (error.Limit n) h = observable_there limits files name (limit n) (file_ends limits files name left finds (limit n) h)
+observable_tells limits files name left finds error.Missing h = tt
+observable_tells limits files name left finds error.Fault h = tt
+observable_tells limits files name left finds error.Memory h = tt

@@ -1,32 +1,30 @@
 -- What steps of a loader keep.
 use Rattle.std.proofs.Common.{◌≡◌, ℕ, ◌+◌, ◌≤◌, Bool, true, false, List, [], ◌∷◌, ◌++◌, length, Some, None, Result, Ok, Err, refl, sym, ap, ◌∙◌, subst, arith, append-nil}
 use Rattle.std.specs.Prelude.{is_some, OnOk, if◌then◌else◌, position, bytes_eq}
-use Rattle.std.specs.List.{list_any, AllByRecursion}
+use Rattle.std.specs.List.{list_any}
 use Rattle.std.specs.Map.{keys_of}
 use Rattle.std.proofs.lemmas.List.{length-map, length_push}
 use Rattle.graph_spec.specs.declared.limits.Limits.{Limits}
 use Rattle.change_spec.specs.Steps.{node, link, apply}
 use Rattle.label_graph.specs.ReservedGraphs.{ReservedGraph, none_reserved}
 use Rattle.triples_read.specs.declared.term.Term.{Term}
-use Rattle.graph_load.specs.declared.known.Key.{Key}
+use Rattle.triple_names.specs.declared.triple_table.Key.{Key}
+use Rattle.triple_names.specs.Items.{term_label, predicate_label}
 use Rattle.graph_load.specs.declared.loader.Loader.{Loader}
-use Rattle.graph_load.specs.TripleGraphs.{need, changed, with_graph, term_label, predicate_label}
+use Rattle.graph_load.specs.TripleGraphs.{need, changed, with_graph}
 use Rattle.term_table.specs.Terms.{number_of, same_term}
-use Rattle.graph_load.specs.TableIndexes.{with_predicate}
+use Rattle.triple_names.specs.TableIndexes.{with_predicate, AreKeysIn}
 use Rattle.term_table.specs.Terms.{place_in}
-use Rattle.graph_load.specs.Loaders.{load_state, PointsInto, IsSoundLoader, LoaderStep}
+use Rattle.graph_load.specs.Loaders.{load_state, IsSoundLoader, LoaderStep}
 use Rattle.term_table.specs.Entries.{Begins}
-use Rattle.graph_load.proofs.PlaceLaws.{position_push, lookup_push, keys_push, is_some-lookup}
+use Rattle.triple_names.proofs.PlaceLaws.{position_push, lookup_push, keys_push, is_some-lookup}
+use Rattle.triple_names.proofs.KeyLaws.{keys_in_grown}
 use Rattle.term_table.proofs.SameTerms.{term_same}
 use Rattle.graph_load.proofs.ChangeLaws.{node_made, link_made, need_new}
 
-pub more_within : (m n p q : ℕ) → m ≤ p → n ≤ q → (ks : List Key) → AllByRecursion (PointsInto m n) ks → AllByRecursion (PointsInto p q) ks
-more_within m n p q mp nq [] h = tt
-more_within m n p q mp nq (k ∷ ks) h = (
-  (let s = h.0.subject in let r = h.0.predicate in let o = h.0.object in
-      record { subject = omega (arith, s, mp); predicate = omega (arith, r, nq); object = omega (arith, o, mp) }),
-  more_within m n p q mp nq ks h.1,
-)
+-- keys stay so where tables grow
+keys_still : (old terms : List (Term × ℕ)) (before predicates : List (List ℕ)) → Begins old terms → Begins before predicates → (entries : List (Key × ℕ)) → AreKeysIn old before entries → AreKeysIn terms predicates entries
+keys_still old terms before predicates b d entries h = subst (λ ts. AreKeysIn ts predicates entries) (sym b.1) (subst (λ ps. AreKeysIn (old ++ b.0) ps entries) (sym d.1) (keys_in_grown old b.0 before d.0 entries h))
 
 -- a term becomes a node
 pub term_steps : (limits : Limits) (x : Term) (old : Loader) (h : ReservedGraph) (n : ℕ) (terms : List (Term × ℕ)) → IsSoundLoader old → number_of old.terms x ≡ None
@@ -44,7 +42,7 @@ term_steps limits x old h n terms sound none made reserved number added =
         reserved = reserved;
         terms = omega (arith, allocated, longer, few);
         predicates = omega (arith, allocated, fewer);
-        known = more_within (length old.terms) (length old.predicates) (length terms) (length old.predicates) (omega (arith, longer)) (omega arith) old.known sound.known;
+        known = keys_still old.terms terms old.predicates old.predicates ((x, n) ∷ [], added) ([], sym (append-nil old.predicates)) old.known sound.known;
       };
       grows = record { terms = ((x, n) ∷ [], added); predicates = ([], sym (append-nil old.predicates)); known = refl };
     }
@@ -76,7 +74,6 @@ node_steps limits iri old h predicates sound made reserved added =
     let allocated = node_made (predicate_label iri) old.graph.graph limits h.graph made in
     let few = sound.terms in
     let fewer = sound.predicates in
-    let more = is.more in
     let next = is.few in
     record {
       does = λ triples. ap (with_graph (load_state old triples)) made;
@@ -84,7 +81,7 @@ node_steps limits iri old h predicates sound made reserved added =
         reserved = reserved;
         terms = omega (arith, allocated, few);
         predicates = omega (arith, allocated, next, fewer);
-        known = more_within (length old.terms) (length old.predicates) (length old.terms) (length predicates) (omega arith) more old.known sound.known;
+        known = keys_still old.terms old.terms old.predicates predicates ([], sym (append-nil old.terms)) is.begins old.known sound.known;
       };
       grows = record { terms = ([], sym (append-nil old.terms)); predicates = is.begins; known = refl };
     }

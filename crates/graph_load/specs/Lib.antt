@@ -1,7 +1,6 @@
 pub mod TripleGraphs
 pub mod TermNodes
 pub mod Loads
-pub mod TableIndexes
 pub mod Hashed
 pub mod Refused
 pub mod Loaders

@@ -6,6 +6,8 @@ use Rattle.px_base.specs.Files.{File, content_of}
 use Rattle.px_base.specs.ReaderStates.{ReaderState, stream}
 use Rattle.graph_spec.specs.Lines.{cut}
 use Rattle.graph_spec.specs.declared.limits.Limits.{Limits}
+use Rattle.graph_spec.specs.Graphs.{Graph}
+use Rattle.triple_names.specs.Names.{Names}
 use Rattle.graph_spec.specs.declared.refusal.Refusal.{Refusal}
 use Rattle.triples_read.specs.Lines.{Spells, Empty}
 use Rattle.triples_read.specs.declared.term.Triple.{Triple}
@@ -17,7 +19,7 @@ use Rattle.graph_load.specs.declared.batch.Waiting.{Waiting}
 use Rattle.graph_load.specs.declared.loader.Loader.{Loader}
 use Rattle.graph_load.specs.TripleGraphs.{LoadState, with_triple}
 use Rattle.graph_load.specs.Hashed.{triple_of, hashed}
-use Rattle.graph_load.specs.Loads.{Outcome, loaded, syntax, limit, Place, LoadsFrom, Loads}
+use Rattle.graph_load.specs.Loads.{OutcomeOf, Outcome, Ending, loaded, syntax, limit, Place, LoadsFrom, Loads, RepresentsText, at_start}
 use Rattle.graph_load.specs.Loaders.{load_state, Holds, IsSoundLoader, IsUntaken}
 
 -- The name is that of an observable file whose text loads to this; of opaque files it says nothing.
@@ -25,13 +27,18 @@ abbrev pub LoadsObservable : Limits → Option (List File) → List ℕ → Outc
 LoadsObservable limits None name o = ⊤
 LoadsObservable limits (Some files) name o = (text : List ℕ) × (content_of files name ≡ Some text) × Loads limits text o
 
+-- The name is that of an observable file, and the graph with the names represents the triples of its text.
+abbrev pub RepresentsFile : Option (List File) → List ℕ → Graph → Names → Type 0
+RepresentsFile None name g n = ⊤
+RepresentsFile (Some files) name g n = (text : List ℕ) × (content_of files name ≡ Some text) × RepresentsText text g n
+
 -- observable files lack the name
 abbrev pub LacksFile : Option (List File) → List ℕ → Type 0
 LacksFile None name = ⊤
 LacksFile (Some files) name = content_of files name ≡ None
 
 -- the outcome that an error tells; memory that ran out and a call that failed tell none
-abbrev pub TellsOutcome : (Outcome → Type 0) → LoadError → Type 0
+abbrev pub TellsOutcome : {X : Type 0} → (OutcomeOf X → Type 0) → LoadError → Type 0
 TellsOutcome P (error.Syntax l) = P (syntax l)
 TellsOutcome P (error.Limit l) = P (limit l)
 TellsOutcome P error.Missing = ⊤
@@ -39,7 +46,7 @@ TellsOutcome P error.Fault = ⊤
 TellsOutcome P error.Memory = ⊤
 
 -- what lies ahead loads to this, where it is observable
-abbrev pub LoadsAhead : Limits → Option (List ℕ) → Place → Outcome → Type 0
+abbrev pub LoadsAhead : Limits → Option (List ℕ) → Place → Ending → Type 0
 LoadsAhead limits None p o = ⊤
 LoadsAhead limits (Some text) p o = LoadsFrom limits (cut text) p o
 
@@ -48,8 +55,25 @@ abbrev pub place : ReaderState → LoadState → Place
 place r l = record { state = l; lines = r.number; bytes = r.taken }
 
 -- what the reader and the shelf have left loads to this outcome from the loader on, where no triple waits
-abbrev pub LoadsRest : Limits → ReaderState → Option (List ℕ) → Loader → (Outcome → Type 0)
+abbrev pub LoadsRest : Limits → ReaderState → Option (List ℕ) → Loader → (Ending → Type 0)
 LoadsRest limits r left loader = LoadsAhead limits (stream r left) (place r (load_state loader []))
+
+-- the same, to what the loader has in the end
+abbrev pub LoadsTables : Limits → ReaderState → Option (List ℕ) → Loader → Loader → Type 0
+LoadsTables limits r left old new = (triples : List (Triple × ℕ)) × Holds new triples × LoadsRest limits r left old (loaded (load_state new triples))
+
+-- what the open file has loads to what the loader has
+abbrev pub LoadsWhole : Limits → Option (List ℕ) → Loader → Type 0
+LoadsWhole limits left new = (triples : List (Triple × ℕ)) × Holds new triples × LoadsAhead limits left at_start (loaded (load_state new triples))
+
+-- the load of the observable file of that name ends so
+abbrev pub FileEnds : Limits → Option (List File) → List ℕ → Ending → Type 0
+FileEnds limits None name e = ⊤
+FileEnds limits (Some files) name e = (text : List ℕ) × (content_of files name ≡ Some text) × LoadsFrom limits (cut text) at_start e
+
+-- what the file of that name has loads to what the loader has
+abbrev pub LoadsWholeFile : Limits → Option (List File) → List ℕ → Loader → Type 0
+LoadsWholeFile limits files name new = (triples : List (Triple × ℕ)) × Holds new triples × FileEnds limits files name (loaded (load_state new triples))
 
 -- the reader has the limits of a graph file, and can read on
 pub record CanRead (r : ReaderState) (is_open : Bool) : Type 0 where
@@ -85,14 +109,14 @@ with_all limits [] l = Ok l
 with_all limits (w ∷ ws) l = then_load (with_one limits w l) (with_all limits ws)
 
 -- what is loaded gives this outcome, by what follows the lines that were read
-abbrev pub LoadsBehind : Limits → Next → ReaderState → Option (List ℕ) → LoadState → Outcome → Type 0
+abbrev pub LoadsBehind : Limits → Next → ReaderState → Option (List ℕ) → LoadState → Ending → Type 0
 LoadsBehind limits Lines r text l o = LoadsAhead limits text (place r l) o
-LoadsBehind limits End r text l o = o ≡ loaded l.graph
+LoadsBehind limits End r text l o = o ≡ loaded l
 LoadsBehind limits (Syntax n) r text l o = o ≡ syntax n
 LoadsBehind limits (Limit n) r text l o = o ≡ limit n
 
 -- the same, where one of the triples that waited may be refused
-abbrev pub LoadsThen : Limits → Next → ReaderState → Option (List ℕ) → Result LoadState ℕ → Outcome → Type 0
+abbrev pub LoadsThen : Limits → Next → ReaderState → Option (List ℕ) → Result LoadState ℕ → Ending → Type 0
 LoadsThen limits next r text (Ok l) o = LoadsBehind limits next r text l o
 LoadsThen limits next r text (Err n) o = o ≡ limit n
 
@@ -108,7 +132,7 @@ AddsLine text n old new (Limit m) = ⊥
 -- from those that waited before and the text that was left before.
 abbrev pub ReadsLines : ReaderState → List Waiting → Option (List ℕ) → Next → ReaderState → List Waiting → Option (List ℕ) → Type 0
 ReadsLines r waited before next q waits after =
-    (limits : Limits) (l : LoadState) (o : Outcome)
+    (limits : Limits) (l : LoadState) (o : Ending)
     → LoadsThen limits next q after (with_all limits waits l) o → LoadsThen limits Lines r before (with_all limits waited l) o
 
 -- more of the text is taken
@@ -122,7 +146,7 @@ pub record ReadsOn {S : Type 0} (left : S → Option (List ℕ)) (is_open : S �
   pub reads : IfOk result (λ next. ReadsLines r waited (stream r (left old)) next q waits (stream q (left new)))
   pub can : IfOk result (λ next. OnLines next (CanRead q (is_open new)))
   pub nearer : IfOk result (λ next. OnLines next (IsNearer r q))
-  pub none : IfErr result (TellsOutcome (λ _. ⊥))
+  pub none : IfErr result (TellsOutcome {X = LoadState} (λ _. ⊥))
   pub found : result ≢ Err error.Missing
   pub same : files new ≡ files old
   pub fault : IsErrOf result error.Fault → MayHaveRisen (faults old) (faults new)
@@ -131,14 +155,14 @@ pub record ReadsOn {S : Type 0} (left : S → Option (List ℕ)) (is_open : S �
 -- the triples that waited are loaded
 pub record AreLoaded (limits : Limits) (waited : List Waiting) (old new : Loader) : Type 0 where
   pub sound : IsSoundLoader new
-  pub does : (triples : List Triple) → Holds old triples
-      → (more : List Triple) × Holds new more × (with_all limits waited (load_state old triples) ≡ Ok (load_state new more))
+  pub does : (triples : List (Triple × ℕ)) → Holds old triples
+      → (more : List (Triple × ℕ)) × Holds new more × (with_all limits waited (load_state old triples) ≡ Ok (load_state new more))
 
 -- a triple is refused, and the number of its line decides
-abbrev pub Stops : Limits → Waiting → Loader → Outcome → Type 0
+abbrev pub Stops : Limits → Waiting → Loader → Ending → Type 0
 Stops limits w r o = (o ≡ limit w.line) × IsUntaken limits (triple_of w.triple) r
 
 -- one of the triples that waited is
-abbrev pub OneStops : Limits → List Waiting → Loader → Outcome → Type 0
+abbrev pub OneStops : Limits → List Waiting → Loader → Ending → Type 0
 OneStops limits waited r o =
-    (triples : List Triple) → Holds r triples → (n : ℕ) × (o ≡ limit n) × (with_all limits waited (load_state r triples) ≡ Err n)
+    (triples : List (Triple × ℕ)) → Holds r triples → (n : ℕ) × (o ≡ limit n) × (with_all limits waited (load_state r triples) ≡ Err n)

@@ -1,5 +1,5 @@
 -- What the lines of a graph file load to.
-use Rattle.std.specs.Prelude.{ℕ, ◌+◌, ◌≡◌, ◌≤◌, ◌⊎◌, List, [], ◌∷◌, length, Ok, Err}
+use Rattle.std.specs.Prelude.{ℕ, ◌+◌, ◌≡◌, ◌≤◌, ◌⊎◌, ◌↔◌, IsTrue, List, [], ◌∷◌, length, Ok, Err}
 use Rattle.px_base.specs.declared.lines.TheConstants.{LINE_BYTES, GRAPH_BYTES}
 use Rattle.graph_spec.specs.declared.limits.Limits.{Limits}
 use Rattle.graph_spec.specs.declared.refusal.Refusal.{Refusal}
@@ -7,15 +7,31 @@ use Rattle.graph_spec.specs.Lines.{Line, cut}
 use Rattle.graph_spec.specs.Graphs.{Graph}
 use Rattle.triples_read.specs.declared.term.Triple.{Triple}
 use Rattle.triples_read.specs.Lines.{Spells, Empty}
+use Rattle.triple_names.specs.Names.{Names}
+use Rattle.triple_names.specs.Represented.{Represents, is_among}
 use Rattle.graph_load.specs.TripleGraphs.{LoadState, nothing_loaded, with_triple}
 
-pub data Outcome : Type 0 where
-  -- the graph of all triples
-  loaded : Graph → Outcome
+-- what a load comes to, where this is what it leaves of a whole file
+pub data OutcomeOf (X : Type 0) : Type 0 where
+  -- what is left of all triples
+  loaded : X → OutcomeOf X
   -- the line of that number is neither spelled nor empty
-  syntax : ℕ → Outcome
+  syntax : ℕ → OutcomeOf X
   -- the line of that number passes a limit on lines or on the text, or needs a node, an edge or a label past its limit
-  limit : ℕ → Outcome
+  limit : ℕ → OutcomeOf X
+
+-- the graph of all triples
+abbrev pub Outcome : Type 0
+Outcome = OutcomeOf Graph
+
+-- the same with the numbers of their terms and of the triples
+abbrev pub Ending : Type 0
+Ending = OutcomeOf LoadState
+
+abbrev pub outcome_of : Ending → Outcome
+outcome_of (loaded l) = loaded l.graph
+outcome_of (syntax n) = syntax n
+outcome_of (limit n) = limit n
 
 -- how far a file is loaded
 pub record Place : Type 0 where
@@ -36,20 +52,31 @@ IsWithinFile p l = (length l.text ≤ LINE_BYTES) × (p.bytes + length l.text + 
 
 -- What becomes of a line that is within the limits on lines: it is empty, or spells a triple, which is loaded or refused,
 -- or neither. What follows is said of the place behind it.
-pub data LoadsLine (limits : Limits) (p : Place) (l : Line) (rest : Place → Outcome → Type 0) : Outcome → Type 0 where
-  empty : Empty l.text → (o : Outcome) → rest (past p l p.state) o → LoadsLine limits p l rest o
+pub data LoadsLine (limits : Limits) (p : Place) (l : Line) (rest : Place → Ending → Type 0) : Ending → Type 0 where
+  empty : Empty l.text → (e : Ending) → rest (past p l p.state) e → LoadsLine limits p l rest e
   takes : (t : Triple) → Spells l.text t → (m : LoadState) → with_triple limits t p.state ≡ Ok m
-      → (o : Outcome) → rest (past p l m) o → LoadsLine limits p l rest o
+      → (e : Ending) → rest (past p l m) e → LoadsLine limits p l rest e
   refuses : (t : Triple) → Spells l.text t → (r : Refusal) → with_triple limits t p.state ≡ Err r → LoadsLine limits p l rest (limit (p.lines + 1))
   neither : ((t : Triple) → Spells l.text t → ⊥) → (Empty l.text → ⊥) → LoadsLine limits p l rest (syntax (p.lines + 1))
 
--- The lines from the place on load to this. The first line that is refused decides.
-abbrev pub LoadsFrom : Limits → List Line → Place → Outcome → Type 0
-LoadsFrom limits [] p o = o ≡ loaded p.state.graph
-LoadsFrom limits (l ∷ ls) p o =
-    ((¬ IsWithinFile p l) × (o ≡ limit (p.lines + 1)))
-    ⊎ (IsWithinFile p l × LoadsLine limits p l (LoadsFrom limits ls) o)
+-- The load of the lines from the place on ends so. The first line that is refused decides.
+abbrev pub LoadsFrom : Limits → List Line → Place → Ending → Type 0
+LoadsFrom limits [] p e = e ≡ loaded p.state
+LoadsFrom limits (l ∷ ls) p e =
+    ((¬ IsWithinFile p l) × (e ≡ limit (p.lines + 1)))
+    ⊎ (IsWithinFile p l × LoadsLine limits p l (LoadsFrom limits ls) e)
 
 -- the text loads to this
-abbrev pub Loads : Limits → List ℕ → Outcome → Type 0
-Loads limits text o = LoadsFrom limits (cut text) at_start o
+pub record Loads (limits : Limits) (text : List ℕ) (o : Outcome) : Type 0 where
+  pub ending : Ending
+  pub ends : LoadsFrom limits (cut text) at_start ending
+  pub is : o ≡ outcome_of ending
+
+-- one of the lines spells the triple
+abbrev pub SpelledIn : List Line → Triple → Type 0
+SpelledIn [] t = ⊥
+SpelledIn (l ∷ ls) t = Spells l.text t ⊎ SpelledIn ls t
+
+-- The graph with the names represents the triples that the lines of the text spell.
+abbrev pub RepresentsText : List ℕ → Graph → Names → Type 0
+RepresentsText text g n = (s : List Triple) × Represents g n s × ((t : Triple) → IsTrue (is_among s t) ↔ SpelledIn (cut text) t)

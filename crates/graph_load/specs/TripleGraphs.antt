@@ -1,43 +1,35 @@
 -- The graph of a set of triples. Each term that is a subject or an object is a node, labelled by its kind; each triple
 -- is a node, labelled by its predicate; edges lead from the subject to the triple and on to the object. Numbers are allocated
 -- in the order of first need: of a new triple its subject, the triple, its object.
-use Rattle.std.specs.Prelude.{ℕ, Bool, ◌&&◌, List, [], ◌∷◌, ◌++◌, length, codes, bytes_eq, is_some, unwrap_or, if◌then◌else◌, Result, Ok, Err}
+use Rattle.std.specs.Prelude.{ℕ, Bool, List, [], ◌∷◌, ◌++◌, length, is_some, unwrap_or, if◌then◌else◌, Result, Ok, Err}
 use Rattle.std.specs.List.{list_any}
+use Rattle.std.specs.Map.{keys_of}
 use Rattle.graph_spec.specs.declared.limits.Limits.{Limits}
 use Rattle.graph_spec.specs.declared.refusal.Refusal.{Refusal}
 use Rattle.graph_spec.specs.Graphs.{Graph, empty_graph}
 use Rattle.change_spec.specs.Steps.{Step, node, link, apply}
-use Rattle.term_table.specs.Terms.{same_term, number_of}
+use Rattle.term_table.specs.Terms.{number_of}
 use Rattle.triples_read.specs.declared.term.Term.{Term}
-use Rattle.triples_read.specs.declared.term.Term.TheVariants.{Iri, Blank, Literal}
 use Rattle.triples_read.specs.declared.term.Triple.{Triple}
-use Rattle.triples_read.specs.Canonical.{iri_spelling}
-
-abbrev pub same_triple : Triple → Triple → Bool
-same_triple t u = same_term t.subject u.subject && (bytes_eq t.predicate u.predicate && same_term t.object u.object)
-
--- the label of a term's node
-abbrev pub term_label : Term → List ℕ
-term_label (Iri iri) = codes "iri"
-term_label (Blank label) = codes "blank"
-term_label (Literal text datatype tag) = codes "literal"
-
--- the label of a triple's node: its predicate in the canonical spelling, brackets included
-abbrev pub predicate_label : List ℕ → List ℕ
-predicate_label iri = iri_spelling iri
+use Rattle.triple_names.specs.Items.{same_triple, term_label, predicate_label}
+use Rattle.triple_names.specs.Names.{Names}
 
 pub record LoadState : Type 0 where
   pub graph : Graph
   -- each term that is a node, with its number
   pub terms : List (Term × ℕ)
-  -- the triples that were taken, each once
-  pub triples : List Triple
+  -- the triples that were taken, each once, with the numbers of their nodes
+  pub triples : List (Triple × ℕ)
 
 abbrev pub nothing_loaded : LoadState
 nothing_loaded = record { graph = empty_graph; terms = []; triples = [] }
 
+-- the numbers of what is loaded
+abbrev pub names_of : LoadState → Names
+names_of l = record { terms = l.terms; triples = l.triples }
+
 abbrev pub is_loaded : LoadState → Triple → Bool
-is_loaded l t = list_any (same_triple t) l.triples
+is_loaded l t = list_any (same_triple t) (keys_of l.triples)
 
 -- what is done next, unless something was refused
 abbrev pub then_do : Result LoadState Refusal → (LoadState → Result LoadState Refusal) → Result LoadState Refusal
@@ -83,4 +75,4 @@ abbrev pub with_triple : Limits → Triple → LoadState → Result LoadState Re
 with_triple limits t l =
     if is_loaded l t then Ok l
     else then_do (need limits t.subject l)
-    (λ a. then_do (placed limits t (length a.graph.allocated) a) (λ b. Ok (record b { triples = b.triples ++ t ∷ [] })))
+    (λ a. then_do (placed limits t (length a.graph.allocated) a) (λ b. Ok (record b { triples = b.triples ++ (t, length a.graph.allocated) ∷ [] })))

@@ -1,6 +1,7 @@
 // Triples are loaded in batches, and looked up ahead together.
 ghost use Rattle.std.specs.Prelude.{◌≡◌, ◌≢◌, [], IfOk, OnOk, IfErr, Err};
 ghost use Rattle.graph_load.specs.TripleGraphs.{nothing_loaded};
+ghost use Rattle.triple_names.specs.TableIndexes.{names_by};
 ghost use Rattle.graph_load.specs.Hashed.{triple_of};
 ghost use Rattle.graph_load.specs.Loaders.{load_state, Holds, IsSoundLoader, IsTaken};
 ghost use Rattle.graph_load.specs.LoadSteps.{TellsOutcome, AreLoaded, Stops, OneStops};
@@ -14,6 +15,7 @@ use label_graph::Graph;
 use px_base::{Limits, Memory};
 use std::alloc::Global;
 use std::marker::Model;
+use triple_names::Names;
 
 /// A loader that is given whole batches. It is seen as the loader alone: what is looked up ahead changes nothing of what
 /// is loaded.
@@ -73,6 +75,15 @@ impl BatchLoader {
         ensures { result ≡ self.graph }
     {
         self.loader.into_graph()
+    }
+
+    /// The graph, and the numbers of what is loaded.
+    pub(crate) fn into_parts(self) -> (Graph, Names)
+        requires { IsSoundLoader self }
+        ensures graph { result.0 ≡ self.graph }
+        ensures names { result.1 ≡ names_by self.terms self.predicates self.known }
+    {
+        self.loader.into_parts()
     }
 
     /// Loads the triples of a batch, in their order.

@@ -2,9 +2,10 @@
 ghost use Rattle.std.specs.Prelude.{◌≡◌, ◌≢◌, ℕ, List, [], IfOk, OnOk, IfErr, IsErrOf, IsTrue, Err};
 ghost use Rattle.px_base.specs.Causes.{MayHaveRisen};
 ghost use Rattle.label_graph.specs.ReservedGraphs.{none_reserved};
+ghost use Rattle.graph_load.specs.TripleGraphs.{nothing_loaded};
 ghost use Rattle.graph_load.specs.Loads.{Outcome, Loads, loaded, at_start};
-ghost use Rattle.graph_load.specs.Loaders.{Holds, IsSoundLoader};
-ghost use Rattle.graph_load.specs.LoadSteps.{LoadsObservable, LacksFile, TellsOutcome, LoadsAhead, LoadsRest, CanRead};
+ghost use Rattle.graph_load.specs.Loaders.{Holds, IsSoundLoader, load_state};
+ghost use Rattle.graph_load.specs.LoadSteps.{LoadsObservable, LoadsWholeFile, RepresentsFile, LacksFile, TellsOutcome, LoadsAhead, LoadsTables, LoadsWhole, LoadsRest, CanRead};
 ghost use Rattle.graph_load.specs.declared.files.LoadError.TheVariants.{Memory as NoMemory};
 
 use crate::batch::{Next, Waiting, give_back, read_batch};
@@ -13,6 +14,7 @@ use label_graph::Graph;
 use px_base::{GRAPH_BYTES, LINE_BYTES, Limits, LineReader, Memory, Shelf};
 use std::alloc::Global;
 use thiserror::Error;
+use triple_names::Names;
 use triples_read::SpareTexts;
 
 /// Why no graph was loaded.
@@ -58,7 +60,7 @@ fn load_batches<H: Shelf>(
     requires nothing { Holds loader.old [] }
     requires sound { IsSoundLoader loader.old }
     requires can { CanRead reader.old (H.is_open shelf.old) }
-    ensures loaded { OnOk result (LoadsRest limits.now reader.old (H.left shelf.old) loader.old (loaded loader.new.graph.graph)) }
+    ensures loaded { OnOk result (LoadsTables limits.now reader.old (H.left shelf.old) loader.old loader.new) }
     ensures sound { OnOk result (IsSoundLoader loader.new) }
     ensures refused { IfErr result (TellsOutcome (LoadsRest limits.now reader.old (H.left shelf.old) loader.old)) }
     ensures found { result ≢ Err LoadError.Missing }
@@ -84,11 +86,19 @@ fn load_batches<H: Shelf>(
     }
 }
 
-// Loads the file that is open.
-fn load_lines<H: Shelf>(alloc: Global, limits: &Limits, shelf: &mut H) -> Result<Graph, LoadError>
-    requires { IsTrue (H.is_open shelf.old) }
-    ensures loaded { IfOk result (λ g. LoadsAhead limits.now (H.left shelf.old) at_start (loaded g.graph)) }
-    ensures reserved { IfOk result (λ g. g.reserved ≡ none_reserved) }
+// Loads the file that is open, where nothing is loaded yet.
+fn load_into<H: Shelf>(
+    alloc: Global,
+    limits: &Limits,
+    loader: &mut BatchLoader,
+    shelf: &mut H,
+) -> Result<(), LoadError>
+    requires opened { IsTrue (H.is_open shelf.old) }
+    requires nothing { Holds loader.old [] }
+    requires sound { IsSoundLoader loader.old }
+    requires empty { load_state loader.old [] ≡ nothing_loaded }
+    ensures loaded { OnOk result (LoadsWhole limits.now (H.left shelf.old) loader.new) }
+    ensures sound { OnOk result (IsSoundLoader loader.new) }
     ensures refused { IfErr result (TellsOutcome (LoadsAhead limits.now (H.left shelf.old) at_start)) }
     ensures found { result ≢ Err LoadError.Missing }
     ensures files { H.files shelf.new ≡ H.files shelf.old }
@@ -96,7 +106,6 @@ fn load_lines<H: Shelf>(alloc: Global, limits: &Limits, shelf: &mut H) -> Result
     ensures no_fault { result ≢ Err LoadError.Fault → H.faults shelf.new ≡ H.faults shelf.old }
 {
     let mut reader = LineReader::new(alloc, LINE_BYTES, GRAPH_BYTES)?;
-    let mut loader = BatchLoader::new(alloc)?;
     let mut spare = SpareTexts::new(alloc);
     let mut waiting = Vec::new(alloc);
     match load_batches(
@@ -105,11 +114,55 @@ fn load_lines<H: Shelf>(alloc: Global, limits: &Limits, shelf: &mut H) -> Result
         &mut reader,
         &mut spare,
         &mut waiting,
-        &mut loader,
+        loader,
         shelf,
     ) {
-        Ok(()) => Ok(loader.into_graph()),
+        Ok(()) => Ok(()),
         Err(error) => Err(error),
+    }
+}
+
+// Loads the file that is open.
+fn load_lines<H: Shelf>(
+    alloc: Global,
+    limits: &Limits,
+    shelf: &mut H,
+) -> Result<BatchLoader, LoadError>
+    requires { IsTrue (H.is_open shelf.old) }
+    ensures loaded { IfOk result (LoadsWhole limits.now (H.left shelf.old)) }
+    ensures sound { IfOk result IsSoundLoader }
+    ensures refused { IfErr result (TellsOutcome (LoadsAhead limits.now (H.left shelf.old) at_start)) }
+    ensures found { result ≢ Err LoadError.Missing }
+    ensures files { H.files shelf.new ≡ H.files shelf.old }
+    ensures fault { IsErrOf result LoadError.Fault → MayHaveRisen (H.faults shelf.old) (H.faults shelf.new) }
+    ensures no_fault { result ≢ Err LoadError.Fault → H.faults shelf.new ≡ H.faults shelf.old }
+{
+    let mut loader = BatchLoader::new(alloc)?;
+    match load_into(alloc, limits, &mut loader, shelf) {
+        Ok(()) => Ok(loader),
+        Err(error) => Err(error),
+    }
+}
+
+// Loads the file of that name.
+fn load_file<H: Shelf>(
+    alloc: Global,
+    shelf: &mut H,
+    name: &str,
+    limits: &Limits,
+) -> Result<BatchLoader, LoadError>
+    ensures loaded { IfOk result (LoadsWholeFile limits.now (H.files shelf.old) name.now) }
+    ensures sound { IfOk result IsSoundLoader }
+    ensures refused { IfErr result (TellsOutcome (LoadsObservable limits.now (H.files shelf.old) name.now)) }
+    ensures missing { IsErrOf result LoadError.Missing → LacksFile (H.files shelf.old) name.now }
+    ensures files { H.files shelf.new ≡ H.files shelf.old }
+    ensures fault { IsErrOf result LoadError.Fault → MayHaveRisen (H.faults shelf.old) (H.faults shelf.new) }
+    ensures no_fault { result ≢ Err LoadError.Fault → H.faults shelf.new ≡ H.faults shelf.old }
+{
+    match shelf.open(name) {
+        Ok(true) => load_lines(alloc, limits, shelf),
+        Ok(false) => Err(LoadError::Missing),
+        Err(_) => Err(LoadError::Fault),
     }
 }
 
@@ -122,7 +175,6 @@ fn load_lines<H: Shelf>(alloc: Global, limits: &Limits, shelf: &mut H) -> Result
 /// there is no file of that name, and `Fault` where a call on the shelf failed. Expected O(b) for a file of b
 /// bytes. Beside the graph it takes, while it loads, the bytes of the distinct terms and predicates with 36 to
 /// 40 more for each term, an entry of a hash table for each distinct triple, and the longest line.
-#[tactic(auto, using(crate::proofs::OneOutcome::one_outcome))]
 pub fn load<H: Shelf>(
     alloc: Global,
     shelf: &mut H,
@@ -142,9 +194,38 @@ pub fn load<H: Shelf>(
     ensures fault { IsErrOf result LoadError.Fault → MayHaveRisen (H.faults shelf.old) (H.faults shelf.new) }
     ensures no_fault { result ≢ Err LoadError.Fault → H.faults shelf.new ≡ H.faults shelf.old }
 {
-    match shelf.open(name) {
-        Ok(true) => load_lines(alloc, limits, shelf),
-        Ok(false) => Err(LoadError::Missing),
-        Err(_) => Err(LoadError::Fault),
+    match load_file(alloc, shelf, name, limits) {
+        Ok(loader) => Ok(loader.into_graph()),
+        Err(error) => Err(error),
+    }
+}
+
+/// As `load`, with the numbers of the terms and of the triples: the graph with them represents the triples of the text. The
+/// tables are those of the load. They keep the bytes of the distinct terms and predicates with 36 to 40 more for each term,
+/// and an entry of a hash table for each distinct triple.
+pub fn load_named<H: Shelf>(
+    alloc: Global,
+    shelf: &mut H,
+    name: &str,
+    limits: &Limits,
+) -> Result<(Graph, Names), LoadError>
+    // A graph comes only where the text of the file loads to it.
+    ensures loaded { IfOk result (λ r. LoadsObservable limits.now (H.files shelf.old) name.now (loaded r.0.graph)) }
+    // It has nothing reserved.
+    ensures reserved { IfOk result (λ r. r.0.reserved ≡ none_reserved) }
+    // With the numbers it represents the triples of the text.
+    ensures represented { IfOk result (λ r. RepresentsFile (H.files shelf.old) name.now r.0.graph r.1) }
+    // The number of a line comes only where the text of the file is refused there, for that reason.
+    ensures refused { IfErr result (TellsOutcome (LoadsObservable limits.now (H.files shelf.old) name.now)) }
+    // A text loads to one outcome at most.
+    ensures once { (text : List ℕ) (a b : Outcome) → Loads limits.now text a → Loads limits.now text b → a ≡ b }
+    ensures missing { IsErrOf result LoadError.Missing → LacksFile (H.files shelf.old) name.now }
+    ensures files { H.files shelf.new ≡ H.files shelf.old }
+    ensures fault { IsErrOf result LoadError.Fault → MayHaveRisen (H.faults shelf.old) (H.faults shelf.new) }
+    ensures no_fault { result ≢ Err LoadError.Fault → H.faults shelf.new ≡ H.faults shelf.old }
+{
+    match load_file(alloc, shelf, name, limits) {
+        Ok(loader) => Ok(loader.into_parts()),
+        Err(error) => Err(error),
     }
 }

@@ -1,16 +1,16 @@
 //! Graph files: the graph of the triples of an N-Triples text.
 //!
 //! A text loads to at most one outcome (`proofs/OneOutcome.antt`). The first refused line decides, whatever follows it.
+//! `load_named` gives the numbers of terms and triples too, by which the graph represents the triples of the text
+//! (`proofs/LoadedTexts.antt`).
 #![tactic(auto)]
 
 mod batch;
 mod batch_loader;
 mod files;
 mod hashed;
-mod known;
 mod limited_changes;
 mod loader;
-mod predicates;
 mod term_changes;
 
-pub use files::{LoadError, load};
+pub use files::{LoadError, load, load_named};

@@ -1,25 +1,26 @@
 // What a load has taken.
 ghost use Rattle.std.specs.Prelude.{◌≡◌, ℕ, List, [], length, position, bytes_eq, Some, None, Ok, OnOk, IfOk, IfSome, IsErrOf, false};
 ghost use Rattle.change_spec.specs.Steps.{node, link};
-ghost use Rattle.graph_load.specs.TripleGraphs.{need, changed, linked, with_triple, nothing_loaded, predicate_label};
+ghost use Rattle.graph_load.specs.TripleGraphs.{need, changed, linked, with_triple, nothing_loaded};
+ghost use Rattle.triple_names.specs.Items.{predicate_label};
+ghost use Rattle.triple_names.specs.TableIndexes.{names_by};
 ghost use Rattle.term_table.specs.Terms.{number_of, place_in};
 ghost use Rattle.term_table.specs.FoundTerms.{IsFound, IsFoundAs};
 ghost use Rattle.triples_read.specs.declared.term.Term.{Term as TermSeen};
 ghost use Rattle.graph_load.specs.Hashed.{triple_of};
-ghost use Rattle.graph_load.specs.Loaders.{ArePlaces, is_known, load_state, with_new, IsNodeOf, Holds, IsSoundLoader, LoaderStep, IsStopped, IsTaken, IsUntaken};
+ghost use Rattle.graph_load.specs.Loaders.{ArePlaces, is_known, load_state, IsNodeOf, Holds, IsSoundLoader, LoaderStep, IsStopped, IsTaken, IsUntaken};
 
 pub(crate) mod ahead;
 
 use crate::hashed::HashedTriple;
-use crate::known::{Key, Known};
 use crate::limited_changes::{Stop, add_node, link};
 use crate::loader::ahead::Hints;
-use crate::predicates::Predicates;
 use crate::term_changes::TermChanges;
 use label_graph::Graph;
 use px_base::{Limits, Memory, NodeId, Text};
 use std::alloc::Global;
 use term_table::{Found, HashedTerm, TermTable};
+use triple_names::{Key, Names, Predicates, TripleTable};
 
 /// The graph of the triples that were taken, and the tables by which their terms and the triples are found.
 #[derive(Drop)]
@@ -27,7 +28,7 @@ pub(crate) struct Loader {
     graph: Graph,
     terms: TermTable,
     predicates: Predicates,
-    known: Known,
+    known: TripleTable,
     term_changes: TermChanges,
 }
 
@@ -51,7 +52,7 @@ impl Loader {
             graph: Graph::new(alloc)?,
             terms: TermTable::new(alloc)?,
             predicates: Predicates::new(alloc),
-            known: Known::new(alloc),
+            known: TripleTable::new(alloc),
             term_changes: TermChanges::new(alloc)?,
         })
     }
@@ -61,6 +62,16 @@ impl Loader {
         ensures { result ≡ self.graph }
     {
         self.graph
+    }
+
+    /// The graph, and the numbers of what is loaded.
+    pub(crate) fn into_parts(self) -> (Graph, Names)
+        requires { IsSoundLoader self }
+        ensures graph { result.0 ≡ self.graph }
+        ensures names { result.1 ≡ names_by self.terms self.predicates self.known }
+    {
+        let names = Names::from_tables(self.terms, self.predicates, self.known);
+        (self.graph, names)
     }
 
     // Where the parts of a triple stand. The hints are tried first.
@@ -235,11 +246,12 @@ impl Loader {
             &triple.object,
             places.object,
         )?;
-        self.known.add(Key {
+        let key = Key {
             subject: from.place,
             predicate,
             object,
-        })?;
+        };
+        self.known.add(key, node)?;
         Ok(())
     }
 

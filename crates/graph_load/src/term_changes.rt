@@ -1,7 +1,7 @@
 // The labels of terms.
 ghost use Rattle.std.specs.Prelude.{◌≡◌, ◌∷◌, [], IfOk, codes};
 ghost use Rattle.change_spec.specs.Steps.{node};
-ghost use Rattle.graph_load.specs.TripleGraphs.{term_label};
+ghost use Rattle.triple_names.specs.Items.{term_label};
 
 use graph_update::{Change, Step};
 use px_base::{Memory, Text};

@@ -5,8 +5,6 @@ mod commands;
 mod indexes;
 mod nodes;
 mod scan;
-#[cfg(test)]
-mod tests;
 mod words;
 
 pub use commands::{Command, ScriptError, read};

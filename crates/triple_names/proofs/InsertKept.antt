@@ -149,7 +149,7 @@ module _ (g : Graph) (n : Names) (s : List Triple) (t : Triple) (r : IsImage g (
   image5 =
       edge_added (with_edge g3 k1 k2) f3 has3 (with_join (has_join s) x w) (edge_added g3 f3 has3 (has_join s) image3 x w k1 k2 number_x number_w) w y k2 k3 number_w number_y
 
-  after_insert : after (insert_steps n g t) g ≡ g5
+  pub after_insert : after (insert_steps n g t) g ≡ g5
   after_insert =
       after_joined (node_unless o1 (term_label t.subject)) (node_unless o2 (predicate_label t.predicate) ++ (node_unless o3 (term_label t.object) ++ (link k1 k2 ∷ link k2 k3 ∷ []))) g
       ∙ after_joined (node_unless o2 (predicate_label t.predicate)) (node_unless o3 (term_label t.object) ++ (link k1 k2 ∷ link k2 k3 ∷ [])) g1

@@ -4,4 +4,7 @@ pub mod ImageSteps
 pub mod InsertKept
 pub mod DeleteKept
 pub mod HistoryLaws
+pub mod PlaceLaws
+pub mod KeyLaws
+pub mod NeighbourLaws
 pub mod Examples

@@ -7,7 +7,8 @@ use Rattle.term_table.proofs.SameTerms.{term_is}
 use Rattle.triples_read.specs.declared.term.Triple.{Triple}
 use Rattle.triple_names.specs.Items.{Item, of_term, of_triple, same_triple, same_item}
 use Rattle.triple_names.specs.Names.{Names, number_in, with_number}
-use Rattle.triple_names.specs.TripleChanges.{Placed, noted}
+use Rattle.triple_names.specs.declared.inserting.Placed.{Placed}
+use Rattle.triple_names.specs.TripleChanges.{noted}
 use Rattle.triple_names.proofs.ItemLaws.{triple_is}
 
 pub lookup_with : {X : Type 0} (same : X → X → Bool) → ((a b : X) → same a b ≡ true → a ≡ b) → (x y : X) (n : ℕ) (es : List (X × ℕ))

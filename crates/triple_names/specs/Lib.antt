@@ -1,5 +1,7 @@
 pub mod Items
 pub mod Names
+pub mod NameCodes
+pub mod TableIndexes
 pub mod TripleChanges
 pub mod Represented
 pub mod Histories

@@ -7,12 +7,7 @@ use Rattle.triples_read.specs.declared.term.Triple.{Triple}
 use Rattle.term_table.specs.Terms.{same_term}
 use Rattle.triple_names.specs.Items.{of_term, of_triple, same_triple, term_label, predicate_label}
 use Rattle.triple_names.specs.Names.{Names, node_there, with_number}
-
--- the numbers that the parts of a triple have, or will be given
-pub record Placed : Type 0 where
-  pub subject : ℕ
-  pub triple : ℕ
-  pub object : ℕ
+use Rattle.triple_names.specs.declared.inserting.Placed.{Placed}
 
 -- the number of a node that is there, else the next one
 abbrev pub given_number : Option ℕ → ℕ → ℕ
@@ -28,6 +23,7 @@ next_after (Some m) next = next
 abbrev pub object_there : Names → Graph → Triple → ℕ → Option ℕ
 object_there n g t subject = if same_term t.object t.subject then Some subject else node_there n g (of_term t.object)
 
+-- the numbers that the parts of a triple have, or will be given
 abbrev pub placed_in : Names → Graph → Triple → Placed
 placed_in n g t =
     let next = length g.allocated in

@@ -1,5 +1,5 @@
 //! Triples that are inserted into a graph and deleted from it: the numbers of terms and of triples, the changes, and that the
-//! graph represents just the triples that are present. Definitions and laws; no code.
+//! graph represents just the triples that are present.
 //!
 //! Laws in `proofs/`:
 //! - `InsertKept`, `DeleteKept`: an accepted insert of a triple leaves a graph that represents the triples with it; an accepted
@@ -7,5 +7,19 @@
 //! - `HistoryLaws`: so do lists of inserts and deletes; two graphs that represent the same triples are isomorphic.
 //! - `ItemLaws`, `NumberLaws`, `ImageSteps`: what has a node; what a list has once a key has got a number; a node more, an edge
 //!   more, a node less.
+//! - `PlaceLaws`, `KeyLaws`, `NeighbourLaws`: where the first element that passes a test stands; which keys are those of a
+//!   triple; whether a node has no neighbour but one.
 //! - `Examples`: worked values, and near misses.
 #![tactic(auto)]
+
+mod deleting;
+mod inserting;
+mod name_tables;
+mod predicates;
+mod triple_table;
+
+pub use deleting::{DeleteError, delete_change};
+pub use inserting::{Placed, insert_change};
+pub use name_tables::Names;
+pub use predicates::Predicates;
+pub use triple_table::{Key, TripleTable};

@@ -16,10 +16,10 @@ HasLoaded low k l = HasAtMost low (3 * k) (2 * k) (3 * k) l
 
 -- the lines load, to a graph with at least one allocated number and at most 60,000
 pub record AreLoaded (lines : List Line) (p : Place) : Type 0 where
-  pub graph : Graph
-  pub loads : LoadsFrom program_limits lines p (loaded graph)
-  pub some : 0 < length graph.allocated
-  pub few : length graph.allocated ≤ 60000
+  pub state : LoadState
+  pub loads : LoadsFrom program_limits lines p (loaded state)
+  pub some : 0 < length state.graph.allocated
+  pub few : length state.graph.allocated ≤ 60000
 
 one_more : (k : ℕ) (l : LoadState) → HasAtMost 1 (3 * k + 1 + 1 + 1) (2 * k + 1 + 1) (3 * k + 1 + 1 + 1) l → HasLoaded 1 (k + 1) l
 one_more k l h = record {
@@ -45,14 +45,14 @@ room_for k n few = (omega (arith, few), omega (arith, few), omega (arith, few))
 line_loads : (p : Place) (n x k : ℕ) → p.bytes + 201 * (n + 1) ≤ GRAPH_BYTES → (took : Takes program_limits (line_proper x).triple p.state (3 * k) (2 * k) (3 * k))
     → AreLoaded (map fed (graph_lines n (after_line x))) (past p (fed (graph_line x)) took.next) → AreLoaded (map fed (graph_lines (suc n) x)) p
 line_loads p n x k room took rest = record {
-  graph = rest.graph;
-  loads = inr (line_within p (graph_line x) n (line_proper x).short room, takes (line_proper x).triple (line_proper x).spelled took.next took.made (loaded rest.graph) rest.loads);
+  state = rest.state;
+  loads = inr (line_within p (graph_line x) n (line_proper x).short room, takes (line_proper x).triple (line_proper x).spelled took.next took.made (loaded rest.state) rest.loads);
   some = rest.some;
   few = rest.few;
 }
 
 load_more : (n x k : ℕ) (p : Place) → HasLoaded 1 k p.state → k + n ≤ 20000 → p.bytes + 201 * n ≤ GRAPH_BYTES → AreLoaded (map fed (graph_lines n x)) p
-load_more zero x k p has few room = record { graph = p.state.graph; loads = refl; some = has.some; few = (let h = has.few_nodes in omega (arith, h, few)) }
+load_more zero x k p has few room = record { state = p.state; loads = refl; some = has.some; few = (let h = has.few_nodes in omega (arith, h, few)) }
 load_more (suc n) x k p has few room =
     let fits = room_for k n few in
     let bytes : p.bytes + 201 * (n + 1) ≤ GRAPH_BYTES = omega (arith, room) in
@@ -76,4 +76,5 @@ made_loads seed = go 20000 (lit< tt) (lit≤ tt)
     go zero some few = absurd (omega (arith, some))
     go (suc n) some few =
         let all = load_all n seed few in
-        (all.graph, subst (λ ls. LoadsFrom program_limits ls at_start (loaded all.graph)) (sym (graph_cut (suc n) seed)) all.loads, all.some, all.few)
+        let ends = subst (λ ls. LoadsFrom program_limits ls at_start (loaded all.state)) (sym (graph_cut (suc n) seed)) all.loads in
+        (all.state.graph, record { ending = loaded all.state; ends = ends; is = refl }, all.some, all.few)

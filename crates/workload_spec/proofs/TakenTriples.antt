@@ -18,9 +18,10 @@ use Rattle.triples_read.specs.declared.term.Term.{Term}
 use Rattle.triples_read.specs.declared.term.Triple.{Triple}
 use Rattle.term_table.specs.Terms.{number_of, same_term}
 use Rattle.term_table.proofs.SameTerms.{term_same}
-use Rattle.graph_load.specs.TripleGraphs.{LoadState, changed, from_term, is_loaded, linked, need, nothing_loaded, onto_term, placed, predicate_label, term_label, then_do, with_graph, with_triple}
+use Rattle.graph_load.specs.TripleGraphs.{LoadState, changed, from_term, is_loaded, linked, need, nothing_loaded, onto_term, placed, then_do, with_graph, with_triple}
+use Rattle.triple_names.specs.Items.{predicate_label, term_label}
 use Rattle.graph_load.proofs.ChangeLaws.{need_new, need_there}
-use Rattle.graph_load.proofs.PlaceLaws.{lookup_append, lookup_push}
+use Rattle.triple_names.proofs.PlaceLaws.{lookup_append, lookup_push}
 
 -- Each term that has a number is a live node. There are at least `low` node numbers, and at most so many of each kind.
 pub record HasAtMost (low nodes edges labels : ℕ) (l : LoadState) : Type 0 where
@@ -222,12 +223,12 @@ placed_leads limits t l u low nodes edges labels has is_from node_room edge_room
     then_leads (changed limits (node (predicate_label t.predicate)) l) (linked limits t.subject (length l.graph.allocated) t.object) l 1 (nodes + 1) edges (labels + 1) 1 (nodes + 1 + 1) (edges + 1 + 1) (labels + 1 + 1) own.leads
     (linked_leads limits t.subject (length l.graph.allocated) t.object a u 1 (nodes + 1) edges (labels + 1) own.leads.few (own.leads.extends.found t.subject u is_from) own.live node_room edge_room label_room)
 
-abbrev noted : Triple → LoadState → LoadState
-noted t b = record b { triples = b.triples ++ t ∷ [] }
+abbrev noted : Triple → ℕ → LoadState → LoadState
+noted t n b = record b { triples = b.triples ++ (t, n) ∷ [] }
 
-note_leads : (t : Triple) (b : LoadState) (low nodes edges labels : ℕ) → HasAtMost low nodes edges labels b → Leads (Ok (noted t b)) b low nodes edges labels
-note_leads t b low nodes edges labels has = record {
-  next = noted t b;
+note_leads : (t : Triple) (n : ℕ) (b : LoadState) (low nodes edges labels : ℕ) → HasAtMost low nodes edges labels b → Leads (Ok (noted t n b)) b low nodes edges labels
+note_leads t n b low nodes edges labels has = record {
+  next = noted t n b;
   made = refl;
   few = record { live = has.live; some = has.some; few_nodes = has.few_nodes; few_edges = has.few_edges; few_labels = has.few_labels };
   extends = record { live = λ n h. h; found = λ x n h. h };
@@ -243,11 +244,11 @@ new_taken limits t l low nodes edges labels has unknown node_room edge_room labe
     let subject = need_leads limits l low nodes edges labels has (omega (arith, node_room)) (omega (arith, label_room)) t.subject in
     let a = subject.leads.next in
     let own = placed_leads limits t a subject.number low (nodes + 1) edges (labels + 1) subject.leads.few subject.found node_room edge_room label_room in
-    let whole : Leads (then_do (need limits t.subject l) (λ a. then_do (placed limits t (length a.graph.allocated) a) (λ b. Ok (noted t b)))) l 1 (nodes + 1 + 1 + 1) (edges + 1 + 1) (labels + 1 + 1 + 1) =
-    then_leads (need limits t.subject l) (λ a. then_do (placed limits t (length a.graph.allocated) a) (λ b. Ok (noted t b))) l low (nodes + 1) edges (labels + 1) 1 (nodes + 1 + 1 + 1) (edges + 1 + 1) (labels + 1 + 1 + 1) subject.leads
-    (then_leads (placed limits t (length a.graph.allocated) a) (λ b. Ok (noted t b)) a 1 (nodes + 1 + 1 + 1) (edges + 1 + 1) (labels + 1 + 1 + 1) 1 (nodes + 1 + 1 + 1) (edges + 1 + 1) (labels + 1 + 1 + 1) own
-    (note_leads t own.next 1 (nodes + 1 + 1 + 1) (edges + 1 + 1) (labels + 1 + 1 + 1) own.few)) in
-    subst (λ b. Leads (if b then Ok l else then_do (need limits t.subject l) (λ a. then_do (placed limits t (length a.graph.allocated) a) (λ b. Ok (noted t b)))) l 1 (nodes + 1 + 1 + 1) (edges + 1 + 1) (labels + 1 + 1 + 1)) (sym unknown) whole
+    let whole : Leads (then_do (need limits t.subject l) (λ a. then_do (placed limits t (length a.graph.allocated) a) (λ b. Ok (noted t (length a.graph.allocated) b)))) l 1 (nodes + 1 + 1 + 1) (edges + 1 + 1) (labels + 1 + 1 + 1) =
+    then_leads (need limits t.subject l) (λ a. then_do (placed limits t (length a.graph.allocated) a) (λ b. Ok (noted t (length a.graph.allocated) b))) l low (nodes + 1) edges (labels + 1) 1 (nodes + 1 + 1 + 1) (edges + 1 + 1) (labels + 1 + 1 + 1) subject.leads
+    (then_leads (placed limits t (length a.graph.allocated) a) (λ b. Ok (noted t (length a.graph.allocated) b)) a 1 (nodes + 1 + 1 + 1) (edges + 1 + 1) (labels + 1 + 1 + 1) 1 (nodes + 1 + 1 + 1) (edges + 1 + 1) (labels + 1 + 1 + 1) own
+    (note_leads t (length a.graph.allocated) own.next 1 (nodes + 1 + 1 + 1) (edges + 1 + 1) (labels + 1 + 1 + 1) own.few)) in
+    subst (λ b. Leads (if b then Ok l else then_do (need limits t.subject l) (λ a. then_do (placed limits t (length a.graph.allocated) a) (λ b. Ok (noted t (length a.graph.allocated) b)))) l 1 (nodes + 1 + 1 + 1) (edges + 1 + 1) (labels + 1 + 1 + 1)) (sym unknown) whole
 
 -- and so is one that may be loaded already
 pub triple_taken : (limits : Limits) (t : Triple) (l : LoadState) (nodes edges labels : ℕ) → HasAtMost 1 nodes edges labels l
@@ -258,7 +259,7 @@ triple_taken limits t l nodes edges labels has node_room edge_room label_room = 
     by false e = new_taken limits t l 1 nodes edges labels has e node_room edge_room label_room
     by true e = record {
       next = l;
-      made = ap (λ b. if b then Ok l else then_do (need limits t.subject l) (λ a. then_do (placed limits t (length a.graph.allocated) a) (λ b. Ok (noted t b)))) e;
+      made = ap (λ b. if b then Ok l else then_do (need limits t.subject l) (λ a. then_do (placed limits t (length a.graph.allocated) a) (λ b. Ok (noted t (length a.graph.allocated) b)))) e;
       few = record {
         live = has.live;
         some = has.some;

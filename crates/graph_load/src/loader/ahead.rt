@@ -4,7 +4,6 @@ ghost use Rattle.std.specs.Prelude.{◌≡◌, ◌<◌};
 
 use crate::batch::Waiting;
 use crate::hashed::HashedTriple;
-use crate::known::Key;
 use crate::loader::Loader;
 use label_graph::Graph;
 use px_base::{Memory, NodeId, Steps};
@@ -12,6 +11,7 @@ use std::alloc::Global;
 use std::marker::Brand;
 use std::sync::ledger::{Blank, Ledger};
 use term_table::{HashedTerm, Hint};
+use triple_names::Key;
 use triples_read::Term;
 
 /// Where the terms of a triple may stand, and where its predicate does.

@@ -43,10 +43,13 @@ returns-in-End-clause-loaded g c =
     let inv = c.batches.invariant in
     let loaded : AreLoaded c.args.limits.now c.as_slice.result.now c.batches.loader c.add_all.new.self = search rules in
     let d = loaded.does inv.triples inv.holds in
-    let all = ap (λ ws. with_all c.args.limits.now ws (load_state c.batches.loader inv.triples)) (sym c.as_slice.ensures.value) ∙ d.2 in
-    batch_leads c.args.limits.now c.batches.reader c.read_batch.new.reader (stream c.batches.reader (g.H.Shelf.left c.batches.shelf)) (stream c.read_batch.new.reader (g.H.Shelf.left c.read_batch.new.shelf))
-    c.batches.waiting.items c.read_batch.new.waiting.items End (load_state c.batches.loader inv.triples) (Ok (load_state c.add_all.new.self d.0)) _
-    inv.none (rw (c.in-Ok.is, c.in-End.is) at c.read_batch.ensures.reads) all inv.leads (outcome.loaded c.add_all.new.self.graph.graph) refl
+    let all = ap (λ ws. with_all c.args.limits.now ws (load_state c.batches.loader inv.triples)) (sym c.as_slice.ensures.value) ∙ d.2 in (
+      d.0,
+      d.1,
+      batch_leads c.args.limits.now c.batches.reader c.read_batch.new.reader (stream c.batches.reader (g.H.Shelf.left c.batches.shelf)) (stream c.read_batch.new.reader (g.H.Shelf.left c.read_batch.new.shelf))
+          c.batches.waiting.items c.read_batch.new.waiting.items End (load_state c.batches.loader inv.triples) (Ok (load_state c.add_all.new.self d.0)) _
+          inv.none (rw (c.in-Ok.is, c.in-End.is) at c.read_batch.ensures.reads) all inv.leads (outcome.loaded (load_state c.add_all.new.self d.0)) refl,
+    )
 
 pub returns-in-Syntax-clause-refused : goal.returns-in-Syntax-clause-refused
 returns-in-Syntax-clause-refused g c =

@@ -3,7 +3,8 @@ use Rattle.std.specs.Prelude.{IsErrOf}
 use Rattle.change_spec.specs.Steps.{node}
 use Rattle.triples_read.specs.declared.term.Term.{Term}
 use Rattle.graph_load.specs.declared.limited_changes.Stop.TheVariants.{Limit}
-use Rattle.graph_load.specs.TripleGraphs.{need, changed, linked, predicate_label}
+use Rattle.graph_load.specs.TripleGraphs.{need, changed, linked}
+use Rattle.triple_names.specs.Items.{predicate_label}
 use Rattle.term_table.specs.Terms.{number_of}
 use Rattle.graph_load.specs.Loaders.{IsStopped}
 use Rattle.graph_load.specs.Hashed.{triple_of}

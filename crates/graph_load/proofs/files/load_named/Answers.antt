@@ -1,0 +1,18 @@
+use Rattle.graph_load.proofs.LoadedTexts.{file_graph, file_represented}
+use Rattle.graph_load.proofs.OneOutcome.{one_outcome}
+use Rattle.graph_load.proofs.files.load_named.Goals as goal
+
+pub returns-in-Ok-clause-loaded : goal.returns-in-Ok-clause-loaded
+returns-in-Ok-clause-loaded g c =
+    rw c.into_parts.ensures.graph (file_graph c.args.limits.now (g.H.Shelf.files c.args.shelf.now) c.args.name.now c.in-Ok.loader (rw c.in-Ok.is at c.load_file.ensures.loaded))
+
+pub returns-in-Ok-clause-represented : goal.returns-in-Ok-clause-represented
+returns-in-Ok-clause-represented g c =
+    rw c.into_parts.ensures.graph (file_represented c.args.limits.now (g.H.Shelf.files c.args.shelf.now) c.args.name.now c.in-Ok.loader c.into_parts.result.1
+    (rw c.in-Ok.is at c.load_file.ensures.sound) c.into_parts.ensures.names (rw c.in-Ok.is at c.load_file.ensures.loaded))
+
+pub returns-in-Ok-clause-once : goal.returns-in-Ok-clause-once
+returns-in-Ok-clause-once g c = one_outcome c.args.limits.now
+
+pub returns-in-Err-clause-once : goal.returns-in-Err-clause-once
+returns-in-Err-clause-once g c = one_outcome c.args.limits.now

@@ -1,0 +1,121 @@
+// The numbers that a load gives, and the changes that insert triples and delete them.
+use graph_load::load_named;
+use label_graph::Graph;
+use px_base::{Limits, MemShelf, Memory, Text};
+use std::alloc::Global;
+use std::test::Fail;
+use triple_names::{DeleteError, Names, Placed, delete_change, insert_change};
+use triples_read::{Triple, read_line};
+
+/// The first triple has the nodes 0, 1 and 2, and the second one 0 and 3.
+const TWO: &[u8] = b"<a> <p> \"b\" .
+<a> <q> <a> .
+";
+
+fn load_two(alloc: Global) -> Result<(Graph, Names), Fail> {
+    let mut files = Vec::new(alloc);
+    let name = Text::from_bytes(alloc, b"g").map_err(|_| Memory)?;
+    files.push((name, TWO.to_vec(alloc)?))?;
+    let mut shelf = MemShelf::new(files, 8, Vec::new(alloc));
+    let Ok(loaded) = load_named(alloc, &mut shelf, "g", &Limits::program()) else {
+        return Err("nothing was loaded".into());
+    };
+    Ok(loaded)
+}
+
+fn triple_of(alloc: Global, line: &[u8]) -> Result<Triple, Fail> {
+    let Ok(Some(triple)) = read_line(alloc, line) else {
+        return Err("the line spells no triple".into());
+    };
+    Ok(triple)
+}
+
+/// The numbers of the subject, the triple and the object.
+fn numbers_of(names: &Names, triple: &Triple) -> (Option<u32>, Option<u32>, Option<u32>) {
+    (
+        names.term(&triple.subject),
+        names.triple(triple),
+        names.term(&triple.object),
+    )
+}
+
+#[test]
+fn terms_and_triples_have_their_numbers(rt: HostRuntime) -> Result<(), Fail> {
+    let (_, names) = load_two(rt.alloc())?;
+    let rows: [(&[u8], (Option<u32>, Option<u32>, Option<u32>)); 4] = [
+        (b"<a> <p> \"b\" .", (Some(0), Some(1), Some(2))),
+        (
+            b"<\\u0061><p>\"\\u0062\". # again",
+            (Some(0), Some(1), Some(2)),
+        ),
+        (b"<a> <q> <a> .", (Some(0), Some(3), Some(0))),
+        (b"<a> <p> \"b\"@en .", (Some(0), None, None)),
+    ];
+    for (line, numbers) in rows {
+        let triple = triple_of(rt.alloc(), line)?;
+        assert!(rt; numbers_of(&names, &triple) == numbers, "{line:?}");
+    }
+    Ok(())
+}
+
+/// How many steps insert the triple, and the numbers of its parts.
+fn insert(
+    alloc: Global,
+    names: &Names,
+    graph: &Graph,
+    line: &[u8],
+) -> Result<(usize, Placed), Fail> {
+    let triple = triple_of(alloc, line)?;
+    let (change, placed) = insert_change(alloc, names, graph, &triple)?;
+    Ok((change.steps().len(), placed))
+}
+
+#[test]
+fn inserts_add_what_is_missing(rt: HostRuntime) -> Result<(), Fail> {
+    let (graph, names) = load_two(rt.alloc())?;
+    let rows: [(&[u8], usize, (u32, u32, u32)); 3] = [
+        (b"<a> <q> <a> .", 2, (0, 3, 0)),
+        (b"<a> <p> <c> .", 4, (0, 4, 5)),
+        (b"_:b <p> _:b .", 4, (4, 5, 4)),
+    ];
+    for (line, steps, (subject, triple, object)) in rows {
+        let placed = Placed {
+            subject,
+            triple,
+            object,
+        };
+        assert!(rt;
+            insert(rt.alloc(), &names, &graph, line)? == (steps, placed),
+            "{line:?}"
+        );
+    }
+    Ok(())
+}
+
+/// How many steps delete the triple.
+fn delete(
+    alloc: Global,
+    names: &Names,
+    graph: &Graph,
+    line: &[u8],
+) -> Result<Result<usize, DeleteError>, Fail> {
+    let triple = triple_of(alloc, line)?;
+    Ok(delete_change(alloc, names, graph, &triple).map(|change| change.steps().len()))
+}
+
+#[test]
+fn deletes_take_terms_that_no_other_triple_has(rt: HostRuntime) -> Result<(), Fail> {
+    let (graph, names) = load_two(rt.alloc())?;
+    let rows: [(&[u8], Result<usize, DeleteError>); 3] = [
+        (b"<a> <p> \"b\" .", Ok(2)),
+        (b"<a> <q> <a> .", Ok(1)),
+        (b"<a> <q> \"b\" .", Err(DeleteError::NoNode)),
+    ];
+    for (line, steps) in rows {
+        assert!(rt;
+            delete(rt.alloc(), &names, &graph, line)? == steps,
+            "{line:?}"
+        );
+    }
+    Ok(())
+}

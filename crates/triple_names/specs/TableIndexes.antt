@@ -1,0 +1,58 @@
+-- Where terms and predicates stand in their tables, and the triples whose parts stand there.
+use Rattle.std.specs.Prelude.{◌≡◌, ℕ, zero, suc, Bool, false, not, ◌&&◌, List, [], ◌∷◌, ◌++◌, map, slice_get, unwrap_or, position, bytes_eq, nat_eq, Some, if◌then◌else◌}
+use Rattle.std.specs.List.{list_any, AllByRecursion}
+use Rattle.std.specs.Map.{keys_of}
+use Rattle.change_spec.specs.Steps.{Step, node}
+use Rattle.triples_read.specs.declared.term.Term.{Term}
+use Rattle.triples_read.specs.declared.term.Term.TheVariants.{Iri}
+use Rattle.triples_read.specs.declared.term.Triple.{Triple}
+use Rattle.triple_names.specs.declared.triple_table.Key.{Key}
+use Rattle.triple_names.specs.Items.{predicate_label}
+use Rattle.term_table.specs.Terms.{same_term, place_in}
+use Rattle.triple_names.specs.Names.{Names}
+
+abbrev pub term_at : List (Term × ℕ) → ℕ → Term
+term_at terms place = unwrap_or (slice_get (keys_of terms) place) (Iri [])
+
+abbrev pub predicate_at : List (List ℕ) → ℕ → List ℕ
+predicate_at predicates place = unwrap_or (slice_get predicates place) []
+
+-- the predicates, and this one behind them where it is new
+abbrev pub with_predicate : List (List ℕ) → List ℕ → List (List ℕ)
+with_predicate predicates iri = if list_any (bytes_eq iri) predicates then predicates else predicates ++ iri ∷ []
+
+-- beside each predicate stands the change that adds the node of a triple with it
+abbrev pub AddLabels : List (List ℕ × List Step) → Type 0
+AddLabels entries = AllByRecursion (λ e. e.1 ≡ node (predicate_label e.0) ∷ []) entries
+
+abbrev pub same_key : Key → Key → Bool
+same_key k l = nat_eq k.subject l.subject && (nat_eq k.predicate l.predicate && nat_eq k.object l.object)
+
+-- whether the first that passes has this place
+abbrev pub stands : {X : Type 0} → (X → Bool) → List X → ℕ → Bool
+stands p [] k = false
+stands p (x ∷ xs) zero = p x
+stands p (x ∷ xs) (suc k) = not (p x) && stands p xs k
+
+-- whether the key is that of the triple
+abbrev pub is_key_of : List (Term × ℕ) → List (List ℕ) → Triple → Key → Bool
+is_key_of terms predicates t k =
+    stands (same_term t.subject) (keys_of terms) k.subject
+    && (stands (bytes_eq t.predicate) predicates k.predicate && stands (same_term t.object) (keys_of terms) k.object)
+
+-- the triple whose parts stand there
+abbrev pub triple_at : List (Term × ℕ) → List (List ℕ) → Key → Triple
+triple_at terms predicates k = record { subject = term_at terms k.subject; predicate = predicate_at predicates k.predicate; object = term_at terms k.object }
+
+-- what stands at the places of the key stands nowhere before them
+pub record IsKeyIn (terms : List (Term × ℕ)) (predicates : List (List ℕ)) (k : Key) : Type 0 where
+  pub subject : place_in terms (term_at terms k.subject) ≡ Some k.subject
+  pub predicate : position (bytes_eq (predicate_at predicates k.predicate)) predicates ≡ Some k.predicate
+  pub object : place_in terms (term_at terms k.object) ≡ Some k.object
+
+abbrev pub AreKeysIn : List (Term × ℕ) → List (List ℕ) → List (Key × ℕ) → Type 0
+AreKeysIn terms predicates entries = AllByRecursion (λ e. IsKeyIn terms predicates e.0) entries
+
+-- the numbers of the terms, and of the triples with these keys
+abbrev pub names_by : List (Term × ℕ) → List (List ℕ) → List (Key × ℕ) → Names
+names_by terms predicates entries = record { terms = terms; triples = map (λ e. (triple_at terms predicates e.0, e.1)) entries }
