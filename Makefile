@@ -59,6 +59,7 @@ bench:
 	@python3 tools/bench_indexes.py
 	@python3 tools/bench_updates.py
 	@python3 tools/bench_groups.py
+	@python3 tools/bench_edits.py
 	@python3 tools/bench_walks.py
 	@command -v serdi >/dev/null || { echo "make bench: serdi isn't on the path, so example_count has nothing to stand beside; apt-get install serdi brings it" >&2; exit 1; }
 	@test -x $(COUNTER)/out/example_count || { echo 'make bench: example_count is missing; make test builds it' >&2; exit 1; }

@@ -1,15 +1,15 @@
 #!/usr/bin/env python3
-"""Compares the program with slow, plain definitions: check_by_definition.py PROGRAM [RUNS [changes]].
+"""Compares the program with slow, plain definitions: check_by_definition.py PROGRAM [RUNS [changes | triples]].
 
-Each run makes a small random script of changes, groups of changes, queries, lists and sizes. With the word changes it is of
-changes alone, and after each, from the first node on, the 1-index and the A(k)-indexes up to A(3) at least are listed; in some of
-these runs, and in no others, a node gains many neighbours one by one, and loses them one by one or at once. At the end it is printed
-how many changes there were. What the program writes must be what the definitions below give, which work on pairs of nodes and know
-neither splitting of blocks nor automata nor sets that spread along an axis. The least walk of an answer is the first that matches of all that
-end there. Where walks come back to their beginning several partitions of the
-1-index are lawful, so of that which the program lists the demands are tested: it is stable, no two blocks can be merged, and
-since it was last listed nodes that no change reaches are together as before. The first script whose output is wrong is printed
-with it, and the exit status is 1.
+Each run makes a small random script of changes, groups of changes, triples that come and go, queries, lists and sizes. With the word
+changes it is of changes alone, and after each, from the first node on, the 1-index and the A(k)-indexes up to A(3) at least are listed;
+in some of these runs, and in no others, a node gains many neighbours one by one, and loses them one by one or at once. With the word
+triples it is of inserts and deletes alone, with the same lists, and after each the graph must be that of a load of the triples that are
+present. At the end it is printed how many changes there were. What the program writes must be what the definitions below give, which
+work on pairs of nodes and know neither splitting of blocks nor automata nor sets that spread along an axis. Where walks come back to
+their beginning several partitions of the 1-index are lawful, so of that which the program lists the demands are tested: it is stable,
+no two blocks can be merged, and since it was last listed nodes that no change reaches are together as before. The first script whose
+output is wrong is printed with it, and the exit status is 1.
 """
 import functools
 import random
@@ -18,6 +18,8 @@ import sys
 import tempfile
 
 LABELS = "abc"
+TERMS = "<a>", "<b>", "_:b", '"l"'
+PREDICATES = "<p>", "<q>"
 NODES = 7
 LINKS = 9
 LINES = 60
@@ -27,7 +29,6 @@ SPOKES = 20, 40
 # the bounds of k, in runs of changes and in the others
 CHANGES_K = 3, 5
 QUERIES_K = 0, 4
-WALK = 6  # up to so many nodes all walks that end in a node are tried, from the least on
 RUNS = 300
 
 
@@ -162,6 +163,21 @@ def make(graph, step):
     return altered
 
 
+def label_of(term):
+    return {"<": "iri", "_": "blank", '"': "literal"}[term[0]]
+
+
+def is_load(graph, names, present):
+    """Whether the graph has a node for each term and each of these triples, by the numbers, two edges for each triple, and nothing else."""
+    labels, edges = {}, set()
+    for triple in present:
+        subject, predicate, object_ = triple
+        labels |= {names[subject]: label_of(subject), names[triple]: predicate, names[object_]: label_of(object_)}
+        edges |= {(names[subject], names[triple]), (names[triple], names[object_])}
+    items = {item for triple in present for item in (triple[0], triple, triple[2])}
+    return len(labels) == len(items) and graph.edges == edges and labels == {n: graph.labels[n] for n in graph.live()}
+
+
 def spelled_step_of_change(step):
     return " ".join([step[0]] + [part if isinstance(part, str) else f"n{part}" for part in step[1:]])
 
@@ -211,30 +227,49 @@ def loosened(graph, related):
 
 
 # Expressions: ("label", text), ("any",), ("star", e), ("plus", e), ("opt", e), ("child", d, e), ("below", d, e), ("or", d, e).
-# A meaning is whether the empty word matches, and the pairs of ends of walks whose words match.
+# A meaning is whether the empty word matches, and the least of the walks whose words match, for each pair of their ends.
+
+def length_first(walk):
+    return len(walk), walk
+
+
+def least_walks(walks):
+    """The least of these walks for each pair of ends."""
+    least = {}
+    for walk in walks:
+        ends = walk[0], walk[-1]
+        least[ends] = min(least.get(ends, walk), walk, key=length_first)
+    return least
+
 
 def joined(edges, front, back):
-    pairs = {(u, w) for u, v in front[1] for x, y in edges if x == v for z, w in back[1] if z == y}
-    return front[0] and back[0], pairs | (front[1] if back[0] else set()) | (back[1] if front[0] else set())
+    """The parts of a least walk are least walks, since their ends are its own and those of an edge."""
+    walks = [a + b for (_, u), a in front[1].items() for (v, _), b in back[1].items() if (u, v) in edges]
+    walks += front[1].values() if back[0] else []
+    walks += back[1].values() if front[0] else []
+    return front[0] and back[0], least_walks(walks)
 
 
 def repeated(edges, meaning):
-    result = (True, set())
+    result = (True, {})
     while True:
-        longer = joined(edges, result, meaning)
-        longer = (True, longer[1] | result[1])
+        longer = either(result, joined(edges, result, meaning))
         if longer == result:
             return result
         result = longer
+
+
+def either(one, other):
+    return one[0] or other[0], least_walks([*one[1].values(), *other[1].values()])
 
 
 def meaning(graph, edges, e):
     def of(part):
         return meaning(graph, edges, part)
     if e[0] == "label":
-        return False, {(n, n) for n in graph.live() if graph.labels[n] == e[1]}
+        return False, {(n, n): (n,) for n in graph.live() if graph.labels[n] == e[1]}
     if e[0] == "any":
-        return False, {(n, n) for n in graph.live()}
+        return False, {(n, n): (n,) for n in graph.live()}
     if e[0] == "star":
         return repeated(edges, of(e[1]))
     if e[0] == "plus":
@@ -242,9 +277,8 @@ def meaning(graph, edges, e):
     if e[0] == "opt":
         return True, of(e[1])[1]
     if e[0] == "or":
-        one, other = of(e[1]), of(e[2])
-        return one[0] or other[0], one[1] | other[1]
-    between = (True, set()) if e[0] == "child" else repeated(edges, of(("any",)))
+        return either(of(e[1]), of(e[2]))
+    between = (True, {}) if e[0] == "child" else repeated(edges, of(("any",)))
     return joined(edges, joined(edges, of(e[1]), between), of(e[2]))
 
 
@@ -276,21 +310,10 @@ def is_shown(graph, e, nodes):
     return are_linked and matches(e, tuple(graph.labels[n] for n in nodes))
 
 
-def walks_to(graph, node, count):
-    """The walks of so many nodes that end in this one, rising."""
-    walks = [(node,)]
-    for _ in range(count - 1):
-        walks = [(p,) + walk for walk in walks for p in graph.parents(walk[0])]
-    return sorted(walks)
-
-
 def least_walk(graph, e, node):
-    """The least walk that ends in the node and whose word matches, if there is one of up to WALK nodes."""
-    for count in range(1, WALK + 1):
-        for walk in walks_to(graph, node, count):
-            if is_shown(graph, e, walk):
-                return walk
-    return None
+    """The least walk that ends in the node and whose word matches, if there is one."""
+    walks = [walk for walk in meaning(graph, graph.edges, e)[1].values() if walk[-1] == node]
+    return min(walks, key=length_first, default=None)
 
 
 def answers(graph, edges, e):
@@ -465,16 +488,6 @@ def writes(*wanted):
     return test
 
 
-def shows_long(graph, e, node):
-    """The test that a walk of more than WALK nodes is written which ends in the node and matches."""
-    def test(output):
-        head, nodes = output.next().split(), [int(word[1:]) for word in output.next().split()]
-        if head != ["walk", str(len(nodes))] or len(nodes) <= WALK:
-            return f"wanted a walk of more than {WALK} nodes, written {head} and {nodes}"
-        return None if nodes[-1] == node and is_shown(graph, e, nodes) else f"{nodes} shows nothing"
-    return test
-
-
 def lists(graph, blocks):
     lines = [" ".join([graph.labels[b[0]]] + [f"n{n}" for n in b]) for b in blocks]
     return writes(f"blocks {len(blocks)}", *lines)
@@ -510,16 +523,20 @@ def sizes_one(graph):
 class Run:
     """A random script, and a test for what each of its lines writes."""
 
-    def __init__(self, seed, changes_alone):
+    def __init__(self, seed, sort):
         self.pick = random.Random(seed)
-        self.changes_alone = changes_alone
+        self.changes_alone = changes_alone = sort != ""
+        triples_alone = sort == "triples"
         self.k = self.pick.randrange(*(CHANGES_K if changes_alone else QUERIES_K))
         self.kept = {"a", "one", "fb"} - {kind for kind in ("one", "fb") if self.pick.randrange(8) == 0}
         self.words = ["--k", str(self.k)] + [f"--without-{kind}" for kind in ("one", "fb") if kind not in self.kept]
         self.graph = Graph()
+        # the numbers of terms and triples, and the triples that were inserted and not deleted
+        self.names = {}
+        self.present = set()
         self.may_have_rings = self.pick.randrange(8) < 5  # so that about half of the changes meet a ring
         self.moves = Moves()
-        self.has_hub = changes_alone and self.pick.randrange(HUB_RUNS) == 0
+        self.has_hub = sort == "changes" and self.pick.randrange(HUB_RUNS) == 0
         self.changes = 0
         # the walks that are tried, and those of more than one node
         self.walks = [0, 0]
@@ -527,12 +544,17 @@ class Run:
         self.ones = [0, 0]
         self.script = []
         self.tests = []
+        if triples_alone:
+            for _ in range(LINES):
+                self.pick.choice([self.insert, self.insert, self.delete])()
+                assert is_load(self.graph, self.names, self.present), self.script
+            return
         for change in [self.node] * NODES + [self.link] * LINKS:
             change()
         if self.has_hub:
             self.hub()
             return
-        changes = [self.node, self.link, self.link, self.link, self.unlink, self.unlink, self.drop, self.relabel, self.group, self.group]
+        changes = [self.node, self.link, self.link, self.link, self.unlink, self.unlink, self.drop, self.relabel, self.group, self.group, self.insert, self.insert, self.delete]
         asks = [self.path, self.path, self.why, self.why, self.branch, self.branch, self.extents, self.sizes]
         for _ in range(LINES):
             if changes_alone and self.may_have_rings and not has_ring(self.graph):
@@ -550,8 +572,8 @@ class Run:
     def any_node(self, graph=None):
         return self.pick.randrange(len((graph or self.graph).labels) + 1)
 
-    def change(self, *steps, is_group=False):
-        """A change of these steps, which may be refused or change nothing; in a run of changes the lists follow it."""
+    def change(self, *steps, is_group=False, line=None):
+        """A change of these steps, which may be refused or change nothing, as a group or as this line; in a run of changes the lists follow it."""
         graph, altered, is_new, refused = self.graph.copy(), set(), False, None
         for step in steps:
             refused = refused or refusal(graph, step)
@@ -568,6 +590,8 @@ class Run:
         if is_group:
             self.script += ["begin"] + lines
             self.say("end", writes(*reply if refused else reply + ["ok"]))
+        elif line:
+            self.say(line, writes(*reply if refused else reply + ["ok"]))
         else:
             self.say(lines[0], writes(*reply or ["ok"]))
         if self.changes_alone:
@@ -621,6 +645,45 @@ class Run:
 
     def a_relabel(self, graph):
         return "relabel", self.any_node(graph), self.pick.choice(LABELS)
+
+    def a_triple(self):
+        return self.pick.choice(TERMS[:3]), self.pick.choice(PREDICATES), self.pick.choice(TERMS)
+
+    def there(self, item):
+        """The node of a term or of a triple, where it is live."""
+        node = self.names.get(item)
+        return node if node is not None and self.graph.is_live(node) else None
+
+    def insert(self):
+        """Inserts a triple, unless that would make a ring where none may be."""
+        triple = subject, predicate, object_ = self.a_triple()
+        given, steps = {}, []
+        for item, label in (subject, label_of(subject)), (triple, predicate), (object_, label_of(object_)):
+            if item not in given:
+                given[item] = self.there(item)
+                if given[item] is None:
+                    given[item] = len(self.graph.labels) + len(steps)
+                    steps.append(("node", label))
+        steps += [("link", given[subject], given[triple]), ("link", given[triple], given[object_])]
+        graph = self.graph.copy()
+        for step in steps:
+            make(graph, step)
+        if self.may_have_rings or not has_ring(graph):
+            self.names |= given
+            self.present.add(triple)
+            self.change(*steps, line=f"insert {subject} {predicate} {object_} .")
+
+    def delete(self):
+        """Deletes a triple, in most cases one that was inserted."""
+        triple = self.pick.choice(sorted(self.present)) if self.present and self.pick.randrange(4) else self.a_triple()
+        line, node = f"delete {' '.join(triple)} .", self.there(triple)
+        self.present.discard(triple)
+        if node is None:
+            self.say(line, writes("refused no-node"))
+            return
+        terms = dict.fromkeys((triple[0], triple[2]))
+        alone = [n for n in map(self.there, terms) if n is not None and set(self.graph.parents(n) + self.graph.children(n)) <= {node}]
+        self.change(*[("drop", n) for n in [node] + alone], line=line)
 
     def node(self):
         self.change(self.a_node(self.graph))
@@ -703,13 +766,10 @@ class Run:
         elif node not in found:
             self.say(line, writes("none"))
         else:
-            self.show(line, e, node, least_walk(self.graph, e, node))
+            self.show(line, e, least_walk(self.graph, e, node))
 
-    def show(self, line, e, node, walk):
+    def show(self, line, e, walk):
         """An answer's walk, and the checks of it and of another with one node changed."""
-        if walk is None:
-            self.say(line, shows_long(self.graph.copy(), e, node))
-            return
         self.walks[0] += 1
         self.walks[1] += len(walk) > 1
         self.say(line, writes(f"walk {len(walk)}", " ".join(f"n{n}" for n in walk)))
@@ -782,12 +842,12 @@ class Run:
 
 
 def main():
-    if not 2 <= len(sys.argv) <= 4 or sys.argv[3:] not in ([], ["changes"]):
+    if not 2 <= len(sys.argv) <= 4 or sys.argv[3:] not in ([], ["changes"], ["triples"]):
         sys.exit(__doc__)
     runs = int(sys.argv[2]) if len(sys.argv) > 2 else RUNS
     changes, of_hubs, ones, walks = 0, 0, [0, 0], [0, 0]
     for seed in range(runs):
-        run = Run(seed, len(sys.argv) == 4)
+        run = Run(seed, "".join(sys.argv[3:]))
         with tempfile.NamedTemporaryFile("w", suffix=".script") as script:
             script.write("".join(line + "\n" for line in run.script))
             script.flush()

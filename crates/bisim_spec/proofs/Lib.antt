@@ -11,6 +11,8 @@ pub mod GrowingSets
 pub mod Reached
 pub mod Ranks
 pub mod Outside
+pub mod LevelSides
+pub mod Affected
 pub mod EdgeSets
 pub mod Moves
 pub mod SingleLists
@@ -23,3 +25,4 @@ pub mod WrittenShapes
 pub mod Examples
 pub mod WrittenGraphs
 pub mod FitExamples
+pub mod BallExamples

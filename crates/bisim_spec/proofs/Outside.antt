@@ -1,16 +1,15 @@
 -- What a change leaves as it was: the nodes that aren't reached from its targets.
-use Rattle.std.proofs.Common.{◌≡◌, ◌≢◌, ◌↔◌, ℕ, zero, suc, List, Option, Some, IsFalse, Bool, sym, ◌∙◌, ap, arith, inl, inr}
+use Rattle.std.proofs.Common.{◌≡◌, ◌≢◌, ℕ, List, Option, Some, IsFalse, Bool, sym, ap, ◌∙◌, inl, inr}
 use Rattle.std.proofs.lemmas.Bool.{false_from_ne_true, both_ways}
 use Rattle.graph_spec.specs.Shapes.{Shape, IsNode, IsParent, IsShape}
-use Rattle.bisim_spec.specs.Bisimilarity.{Covers, Bis}
 use Rattle.graph_spec.specs.Members.{at}
 use Rattle.bisim_spec.specs.Partitions.{Together}
 use Rattle.bisim_spec.specs.Stability.{Stable, Mergeable, Minimal, merged}
-use Rattle.bisim_spec.specs.Reach.{within_distance, reach}
+use Rattle.bisim_spec.specs.Reach.{reach}
 use Rattle.bisim_spec.proofs.Stable.{stable_label, stable_parents}
 use Rattle.bisim_spec.proofs.Together.{together_sym, together_at, merged_keeps, merged_a, merged_b, merged_cases}
 use Rattle.bisim_spec.proofs.MergeableBlocks.{mergeable_from}
-use Rattle.bisim_spec.proofs.Reached.{within_next, within_step, within_more, reach_start, unreached_parent}
+use Rattle.bisim_spec.proofs.Reached.{reach_start, unreached_parent}
 
 -- A node of the second shape that is no target has the label that it had in the first, and the same parents. A number that
 -- is no node of the second shape may have had any.
@@ -39,70 +38,6 @@ outside_reach target s s2 shape d = record {
   edge = λ p n h. d.edge p n h.0 (off_target s2 target n h.1);
 }
 
--- By level: such nodes have their labels and parents, and from one level up their parents are such nodes.
-record IsOutsideBy (s s2 : Shape) (Out : ℕ → ℕ → Type 0) : Type 0 where
-  lower : (i n : ℕ) → Out (suc i) n → Out i n
-  parents : (i p n : ℕ) → Out (suc i) n → IsParent s2 p n → Out i p
-  label : (i n : ℕ) → Out i n → s.label n ≡ s2.label n
-  edge : (i p n : ℕ) → Out i n → s.edge p n ≡ s2.edge p n
-
-outside_back : (s s2 : Shape) (Out : ℕ → ℕ → Type 0) → IsOutsideBy s s2 Out → IsOutsideBy s2 s Out
-outside_back s s2 Out o = record {
-  lower = o.lower;
-  parents = λ i p n h e. o.parents i p n h (sym (o.edge i p n (o.lower i n h)) ∙ e);
-  label = λ i n h. sym (o.label i n h);
-  edge = λ i p n h. sym (o.edge i p n h);
-}
-
--- a parent of the one and the parent of the other, to which it is bisimilar
-covers_carried : (s s2 : Shape) (Out : ℕ → ℕ → Type 0) → IsOutsideBy s s2 Out → (i u v : ℕ)
-    → ((p q : ℕ) → Out i p → Out i q → Bis s i p q → Bis s2 i p q) → Out (suc i) u → Out (suc i) v
-    → Covers (IsParent s) (Bis s i) u v → Covers (IsParent s2) (Bis s2 i) u v
-covers_carried s s2 Out o i u v below ou ov h p e =
-    let q = h p (o.edge i p u (o.lower i u ou) ∙ e) in
-    let f = sym (o.edge i q.0 v (o.lower i v ov)) ∙ q.1 in
-    (q.0, f, below p q.0 (o.parents i p u ou e) (o.parents i q.0 v ov f) q.2)
-
-bis_carried : (s s2 : Shape) (Out : ℕ → ℕ → Type 0) → IsOutsideBy s s2 Out → (i u v : ℕ) → Out i u → Out i v → Bis s i u v → Bis s2 i u v
-bis_carried s s2 Out o zero u v ou ov h = (h.0, sym (o.label 0 u ou) ∙ h.1, sym (o.label 0 v ov) ∙ h.2)
-bis_carried s s2 Out o (suc i) u v ou ov h = (
-  bis_carried s s2 Out o i u v (o.lower i u ou) (o.lower i v ov) h.0,
-  record {
-    there = covers_carried s s2 Out o i u v (bis_carried s s2 Out o i) ou ov h.1.there;
-    back = covers_carried s s2 Out o i v u (bis_carried s s2 Out o i) ov ou h.1.back;
-  },
-)
-
--- a node that isn't within so many edges of the targets
-abbrev pub IsFar : Shape → (ℕ → Bool) → ℕ → ℕ → Type 0
-IsFar s target i n = IsNode s n × IsFalse (within_distance s target i n)
-
-outside_within : (target : ℕ → Bool) (s s2 : Shape) → IsShape s2 → DiffersAt target s s2 → IsOutsideBy s s2 (IsFar s2 target)
-outside_within target s s2 shape d =
-    let apart : (i n : ℕ) → IsFalse (within_distance s2 target i n) → IsFalse (target n) =
-    λ i n h. false_from_ne_true (target n) (λ t. both_ways (within_distance s2 target i n) h (within_more s2 target 0 i n (omega arith) t))
-    in
-    record {
-      lower = λ i n h. (
-        h.0,
-        false_from_ne_true (within_distance s2 target i n) (λ t. both_ways (within_distance s2 target (suc i) n) h.1 (within_next s2 target i n t)),
-      );
-      parents = λ i p n h e. (
-        shape.from p n e,
-        false_from_ne_true (within_distance s2 target i p) (λ t. both_ways (within_distance s2 target (suc i) n) h.1 (within_step s2 shape target i p n t e)),
-      );
-      label = λ i n h. d.label n h.0 (apart i n h.1);
-      edge = λ i p n h. d.edge p n h.0 (apart i n h.1);
-    }
-
--- nodes that aren't within so many edges of the targets are bisimilar to that level exactly where they were
-pub bis_kept : (target : ℕ → Bool) (s s2 : Shape) → IsShape s2 → DiffersAt target s s2 → (i u v : ℕ)
-    → IsFar s2 target i u → IsFar s2 target i v → Bis s i u v ↔ Bis s2 i u v
-bis_kept target s s2 shape d i u v fu fv =
-    let out = outside_within target s s2 shape d in
-    let Out : ℕ → ℕ → Type 0 = IsFar s2 target in
-    (bis_carried s s2 Out out i u v fu fv, bis_carried s2 s Out (outside_back s s2 Out out) i u v fu fv)
-
 -- two partitions group these nodes alike
 pub record SameOutside (p p2 : List (Option ℕ)) (Out : ℕ → Type 0) : Type 0 where
   pub into : (x y : ℕ) → Out x → Out y → Together p x y → Together p2 x y
@@ -113,7 +48,7 @@ outside_merged : (p p2 : List (Option ℕ)) (Out : ℕ → Type 0) → SameOutsi
     → at p2 x ≡ Some a → at p2 y ≡ Some b → at p x ≡ Some a0 → at p y ≡ Some b0
     → (u v : ℕ) → Out u → Out v → Together (merged a b p2) u v → Together (merged a0 b0 p) u v
 outside_merged p p2 Out same x y a b a0 b0 ox oy hx hy kx ky u v ou ov t = elim (merged_cases a b p2 u v t) [
-  | inl within_distance ↦ merged_keeps a0 b0 p u v (same.back u v ou ov within_distance)
+  | inl one ↦ merged_keeps a0 b0 p u v (same.back u v ou ov one)
   | inr (inl (eu, ev)) ↦
       (let pu = together_at p x u a0 (same.back x u ox ou (a, hx, eu)) kx in
       let pv = together_at p y v b0 (same.back y v oy ov (b, hy, ev)) ky in

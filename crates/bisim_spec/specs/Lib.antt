@@ -3,6 +3,7 @@ pub mod Bisimilarity
 pub mod Partitions
 pub mod Stability
 pub mod Reach
+pub mod SidedLevels
 pub mod Supports
 pub mod IndexGraphs
 pub mod Tests

@@ -17,3 +17,11 @@ within_distance s from (suc j) n = within_distance s from j n || any_below s.siz
 -- the same for any number of edges: more edges than numbers lead nowhere else
 abbrev pub reach : Shape → (ℕ → Bool) → ℕ → Bool
 reach s from n = within_distance s from s.size n
+
+-- the shape with each edge taken both ways
+abbrev pub either_way : Shape → Shape
+either_way s = record { size = s.size; label = s.label; edge = λ p n. s.edge p n || s.edge n p }
+
+-- the starting numbers, and the nodes that at most so many edges, each taken in either direction, join to them
+abbrev pub ball : Shape → (ℕ → Bool) → ℕ → ℕ → Bool
+ball s from j n = within_distance (either_way s) from j n

@@ -12,6 +12,8 @@
 //!   that a cycle breaks this.
 //! - `Differs`, `Changed`, `Outside`: where a node or an edge comes or goes a graph differs at one node; a stable partition is then stable
 //!   except at the targets; no pair of blocks becomes mergeable outside the change's reach.
+//! - `Affected`: nodes that a change doesn't affect at a level are bisimilar to it exactly where they were, whichever
+//!   sides count.
 //! - `Moves`, `Supported`: what a moved node and an edge added or removed do to supports; a pair has support exactly if an edge joins the
 //!   two blocks.
 //! - `FitLaws`: which views fit the 1-index.
@@ -21,4 +23,4 @@ mod kind;
 mod sides;
 
 pub use kind::Kind;
-pub use sides::Side;
+pub use sides::{Side, Sides};

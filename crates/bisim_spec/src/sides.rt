@@ -1,4 +1,4 @@
-// The two sides of a node.
+// The two sides of a node, and which of them count.
 ghost use Rattle.std.specs.Prelude.{◌≡◌};
 ghost use Rattle.bisim_spec.specs.SideEdges.{edge_with};
 
@@ -21,4 +21,13 @@ impl Side {
             Side::Children => (own, neighbour),
         }
     }
+}
+
+/// By which neighbours an index tells nodes apart.
+#[derive(Clone, Copy, Debug, PartialEq, Eq)]
+pub enum Sides {
+    /// By their parents, as the A(k)-index does (Kaushik et al., ICDE 2002).
+    Parents,
+    /// By their parents and their children, as the forward and backward index does (Kaushik et al., SIGMOD 2002).
+    Both,
 }

@@ -4,3 +4,4 @@ pub mod Taken
 pub mod LabelNames
 pub mod SetLaws
 pub mod Relaxed
+pub mod DepthLists

@@ -1,8 +1,10 @@
-//! Branching queries as trees: the sets of nodes that they lead through, their answers over any graph, and their relaxed forms.
+//! Branching queries as trees: the sets of nodes that they lead through, their answers over any graph, their relaxed
+//! forms, and how far they look.
 #![tactic(auto)]
 
 mod answers;
 mod axis;
+mod depths;
 mod holding;
 mod leading;
 mod meeting;
@@ -14,5 +16,6 @@ mod tree;
 
 pub use answers::eval;
 pub use axis::Axis;
+pub use depths::depth;
 pub use relaxing::relax;
 pub use tree::{And, BranchTree, Cond, Hop, Or, Rel, Step, Test};

@@ -45,13 +45,14 @@ along_back s t R f below u x v r h = reached_onto s t R f u x v r h
 along_back s t R f parent u x v r h = f.from u x v r h
 along_back s t R f above u x v r h = reached_from s t R f u x v r h
 
-passes : (s t : Shape) (R : ℕ → ℕ → Type 0) → Follows s t R → (p : Test) (u x : ℕ) → R u x → Passes s p u → Passes t p x
-passes s t R f (label l) u x r h = sym (f.labels u x r) ∙ h
-passes s t R f any u x r h = ap is_some (sym (f.labels u x r)) ∙ h
+-- nodes with one label pass the same tests
+pub passes : (s t : Shape) (p : Test) (u x : ℕ) → s.label u ≡ t.label x → Passes s p u → Passes t p x
+passes s t (label l) u x e h = sym e ∙ h
+passes s t any u x e h = ap is_some (sym e) ∙ h
 
 mutual
   meets : (p : Step) (s t : Shape) (R : ℕ → ℕ → Type 0) → AnswersAgree s t R → (u x : ℕ) → R u x → Meets s p u → Meets t p x
-  meets (step p ps) s t R a u x r h = (passes s t R a.there p u x r h.0, hold_all ps s t R a u x r h.1)
+  meets (step p ps) s t R a u x r h = (passes s t p u x (a.there.labels u x r) h.0, hold_all ps s t R a u x r h.1)
 
   hold_all : (ps : Preds) (s t : Shape) (R : ℕ → ℕ → Type 0) → AnswersAgree s t R → (u x : ℕ) → R u x → HoldAll s ps u → HoldAll t ps x
   hold_all none s t R a u x r h = tt

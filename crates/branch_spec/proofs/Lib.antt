@@ -1,5 +1,10 @@
 pub mod RelaxedAnswers
 pub mod AnswersAgree
+pub mod DepthLaws
+pub mod AlikeBy
+pub mod BothAgree
 pub mod OneQuery
 pub mod CanonicalTexts
+pub mod TokenCounts
 pub mod Examples
+pub mod DepthExamples

@@ -1,5 +1,5 @@
 -- What a text spells, and which trees have a text.
-use Rattle.std.specs.Prelude.{ℕ, Bool, true, false, List, [], ◌∷◌}
+use Rattle.std.specs.Prelude.{ℕ, ◌≤◌, ◌^◌, Bool, true, false, List, [], ◌∷◌, length}
 use Rattle.std.specs.List.{list_all}
 use Rattle.branch_spec.specs.Trees.{Branch}
 use Rattle.branch_spec.specs.Tokens.{Token, lab, underscore, axis, left, right, opening, closing, not_word, and_word, or_word, nothing, tokens}
@@ -40,3 +40,8 @@ AreLabels (not_word ∷ r) = AreLabels r
 AreLabels (and_word ∷ r) = AreLabels r
 AreLabels (or_word ∷ r) = AreLabels r
 AreLabels (nothing ∷ r) = AreLabels r
+
+-- it has at most 2^30 tokens, as a text within the limits does; so its depth and that of its relaxed form fit into 32
+-- bits
+abbrev pub HasFewTokens : Branch → Type 0
+HasFewTokens q = length (tokens q) ≤ 2 ^ 30

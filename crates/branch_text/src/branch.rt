@@ -2,13 +2,14 @@
 ghost use Rattle.std.specs.Prelude.{◌≡◌, ◌↔◌, Err, IfOk, IsErrOf, IsTrue};
 ghost use Rattle.branch_spec.specs.Trees as tree;
 ghost use Rattle.branch_spec.specs.Relaxed.{relax};
+ghost use Rattle.branch_spec.specs.Depths.{depth};
 ghost use Rattle.branch_spec.specs.Spelling.{canonical};
 ghost use Rattle.path_query.specs.Parsed.{is_past};
 ghost use Rattle.branch_text.specs.Parsed.{Spells, has_text};
 
 use crate::parsing::read;
 use crate::writing::write_branch;
-use branch_expr::{BranchTree, relax};
+use branch_expr::{BranchTree, depth, relax};
 use graph_spec::Limits;
 use path_query::{ExprError, ReadError, is_past};
 use px_base::{Memory, Text};
@@ -31,7 +32,7 @@ impl Model for Branch {
     ghost use Rattle.branch_spec.specs.Trees.{Branch as Tree};
     ghost use Rattle.branch_spec.specs.Tokens.{tokens};
     ghost use Rattle.branch_expr.specs.TreeCodes.{coded_branch};
-    ghost use Rattle.branch_text.specs.Parsed.{AreLabels};
+    ghost use Rattle.branch_text.specs.Parsed.{AreLabels, HasFewTokens};
 
     ghost Value = { Tree };
 
@@ -39,7 +40,7 @@ impl Model for Branch {
 
     ghost view = { λ q. q.tree };
 
-    ghost invariant = { λ q. AreLabels (tokens q.tree) };
+    ghost invariant = { λ q. AreLabels (tokens q.tree) × HasFewTokens q.tree };
 }
 
 impl Branch {
@@ -87,6 +88,16 @@ impl Branch {
     {
         let tree = relax(alloc, &self.tree)?;
         Ok(Branch { tree })
+    }
+
+    /// How many edges away from its answers the query looks, and None exactly where it holds `//` or `\\`, so that there
+    /// is no bound. Nodes that are bisimilar by parents and children to this level answer it alike. It is at most 2^30,
+    /// since each axis takes a byte of a text within the limits. O(m) for a query with m tokens, no memory. Source:
+    /// Kaushik et al., SIGMOD 2002.
+    pub fn depth(&self) -> Option<u32>
+        ensures { result ≡ depth self.now }
+    {
+        depth(&self.tree)
     }
 
     /// The tree. O(1), no memory.

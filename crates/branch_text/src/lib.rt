@@ -1,4 +1,4 @@
-//! Branching queries as texts: read within limits, written, relaxed, and asked of any graph.
+//! Branching queries as texts: read within limits, written, relaxed, measured in depth, and asked of any graph.
 #![tactic(auto)]
 
 mod answers;

@@ -1,5 +1,6 @@
 pub mod StepGraphs
 pub mod StepDiffers
+pub mod EndsDiffer
 pub mod MoreTargets
 pub mod SingleSteps
 pub mod Fronts

@@ -2,6 +2,7 @@ pub mod Steps
 pub mod Codes
 pub mod Named
 pub mod Altered
+pub mod Ends
 pub mod Costs
 pub mod NextOne
 pub mod Places

@@ -1,8 +1,8 @@
 -- What effects say of the two graphs between which they lead.
-use Rattle.std.proofs.Common.{◌≡◌, ◌≢◌, ℕ, ◌+◌, ◌<◌, ◌≤◌, List, [], ◌∷◌, ◌++◌, length, Option, Some, None, IsTrue, IsFalse, is_some, refl, sym, ◌∙◌, ap, subst, arith, inl, inr, true, false, Bool, cond, take, true≢false}
+use Rattle.std.proofs.Common.{◌≡◌, ◌≢◌, ℕ, ◌+◌, List, [], ◌∷◌, ◌++◌, Option, Some, None, IsTrue, IsFalse, is_some, refl, sym, ◌∙◌, ap, inl, inr, true, false, Bool, cond, true≢false}
 use Rattle.std.specs.Prelude.{nat_eq, ◌&&◌, ◌||◌, not, slice_get, option_and_then, position, bytes_eq}
 use Rattle.std.proofs.Math.Bool.{or-false}
-use Rattle.std.proofs.lemmas.Bool.{cases_Bool, and_parts, and_from, false_from_ne_true}
+use Rattle.std.proofs.lemmas.Bool.{cases_Bool, and_parts, false_from_ne_true}
 use Rattle.std.proofs.lemmas.Bool.Decides.{eqb_tells}
 use Rattle.std.proofs.lemmas.List.Folds.{list_any-append}
 use Rattle.graph_spec.specs.Graphs.{Graph, IsGraph, is_live, label_of, has_edge}
@@ -11,7 +11,7 @@ use Rattle.graph_spec.specs.Shapes.{IsNode, shape_of}
 use Rattle.label_graph.specs.GraphViews.{label_number}
 use Rattle.label_graph.proofs.Positions.{text-at, position-at}
 use Rattle.bisim_spec.specs.Partitions.{IsPartition}
-use Rattle.bisim_spec.proofs.Bisimilar.{is_some_at, some_of}
+use Rattle.bisim_spec.proofs.Bisimilar.{is_some_at}
 use Rattle.bisim_spec.proofs.Outside.{DiffersAt}
 use Rattle.one_spec.specs.BlockLabels.{BlocksHaveLabels, BlocksHaveLabelsBut}
 use Rattle.one_spec.specs.EdgeCounts.{AreEdgeCounts}
@@ -103,6 +103,13 @@ added_absent g g2 e w = record {
     off true = refl
     off false = refl
 
+-- a number that isn't a node has no edge
+pub off_edges : (g : Graph) (n u v : ℕ) → IsGraph g → is_live g n ≡ false → has_edge g u v ≡ true → (nat_eq u n ≡ false) × (nat_eq v n ≡ false)
+off_edges g n u v graph dead on = (
+  false_from_ne_true (nat_eq u n) (λ h. elim (eqb_tells u n) [ inl s ↦ true≢false (sym (graph.from u v on) ∙ ap (is_live g) s.1 ∙ dead) | inr o ↦ absurd (true≢false (sym h ∙ o.0)) ]),
+  false_from_ne_true (nat_eq v n) (λ h. elim (eqb_tells v n) [ inl s ↦ true≢false (sym (graph.onto u v on) ∙ ap (is_live g) s.1 ∙ dead) | inr o ↦ absurd (true≢false (sym h ∙ o.0)) ]),
+)
+
 -- what is left is in both graphs
 pub left_in_both : (g g2 : Graph) (e : EffectLists) (u v : ℕ) → AreEffects g g2 e → has_edge (without_edges g e.lost) u v ≡ true → (has_edge g u v ≡ true) × (has_edge g2 u v ≡ true)
 left_in_both g g2 e u v w h =
@@ -116,6 +123,11 @@ left_in_both g g2 e u v w h =
       where
         none : (b : Bool) → (not (false && not b) && false) ≡ false
         none b = refl
+
+-- no edge that is left is one of a node that goes
+pub off_left : (g g2 : Graph) (e : EffectLists) (n u v : ℕ) → AreEffects g g2 e → IsGraph g2 → is_live g2 n ≡ false → has_edge (without_edges g e.lost) u v ≡ true
+    → (nat_eq u n ≡ false) × (nat_eq v n ≡ false)
+off_left g g2 e n u v w graph dead on = off_edges g2 n u v graph dead (left_in_both g g2 e u v w on).1
 
 all_there : (a b : Bool) → ((b && not a) || (not (a && not b) && a)) ≡ b
 all_there true true = refl
@@ -188,7 +200,8 @@ neither_of false b h = (refl, h)
 put_here : (n : ℕ) (o : Option ℕ) (block block2 : List (Option ℕ)) → ((m : ℕ) → at block2 m ≡ cond (nat_eq m n) o (at block m)) → (m : ℕ) → nat_eq m n ≡ true → at block2 m ≡ o
 put_here n o block block2 put m h = put m ∙ ap (λ t. cond t o (at block m)) h
 
-put_else : (n : ℕ) (o : Option ℕ) (block block2 : List (Option ℕ)) → ((m : ℕ) → at block2 m ≡ cond (nat_eq m n) o (at block m)) → (m : ℕ) → nat_eq m n ≡ false → at block2 m ≡ at block m
+-- the other nodes are where they were
+pub put_else : (n : ℕ) (o : Option ℕ) (block block2 : List (Option ℕ)) → ((m : ℕ) → at block2 m ≡ cond (nat_eq m n) o (at block m)) → (m : ℕ) → nat_eq m n ≡ false → at block2 m ≡ at block m
 put_else n o block block2 put m h = put m ∙ ap (λ t. cond t o (at block m)) h
 
 pub moved_none : (g2 : Graph) (base block : List (Option ℕ)) (labels : ℕ → Option ℕ) → ((n : ℕ) → at block n ≡ at base n) → HaveNodesMoved g2 base block labels [] []

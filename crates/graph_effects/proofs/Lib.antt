@@ -1,5 +1,6 @@
 pub mod EdgeLists
 pub mod EffectLaws
+pub mod ListedEffects
 pub mod GoneNodes
 pub mod NamedPairs
 pub mod GoneEdges

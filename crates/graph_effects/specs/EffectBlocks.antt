@@ -4,7 +4,8 @@ use Rattle.graph_spec.specs.Graphs.{Graph}
 use Rattle.graph_spec.specs.Members.{at, has}
 use Rattle.label_graph.specs.GraphViews.{label_number}
 
--- Nodes that have come are in blocks with their labels, those that have gone are in none, and all others are where they were.
+-- Nodes that have come are in blocks with their labels, those that have gone are in none, and all others are where they
+-- were.
 pub record HaveNodesMoved (g2 : Graph) (base block : List (Option ℕ)) (labels : ℕ → Option ℕ) (came gone : List ℕ) : Type 0 where
   pub joined : (n : ℕ) → IsTrue (has came n)
       → (b : ℕ) × (d : ℕ) × (at block n ≡ Some b) × (labels b ≡ Some d) × (label_number g2 n ≡ Some d)

@@ -67,9 +67,9 @@ is_relabelled g g2 n = (is_live g n && is_live g2 n) && not (is_same_label (labe
 abbrev pub is_new_edge : Graph → Graph → ℕ → ℕ → Bool
 is_new_edge g g2 u v = has_edge g2 u v && not (has_edge g u v)
 
--- The effects lead from the graph g to g2. Nodes and edges come and go, and nodes get other labels, as listed. Labels keep their
--- numbers. The targets are nodes of g2: those that come, those that get another label, those to which an edge comes or goes, and
--- perhaps others.
+-- The effects lead from the graph g to g2. Nodes and edges come and go, and nodes get other labels, as listed. Labels
+-- keep their numbers. The targets are nodes of g2: those that come, those that get another label, those to which an
+-- edge comes or goes, and perhaps others.
 pub record AreEffects (g g2 : Graph) (e : EffectLists) : Type 0 where
   pub seen : (l : ℕ) (t : List ℕ) → slice_get g.seen l ≡ Some t → slice_get g2.seen l ≡ Some t
   pub came : Lists (is_new_node g g2) e.came

@@ -1,5 +1,5 @@
 -- The steps by which the edges of a triple are added.
-use Rattle.std.proofs.Common.{◌≡◌, ℕ, List, ◌++◌, Some, ap, ◌∙◌, append_assoc}
+use Rattle.std.proofs.Common.{◌≡◌, ℕ, List, Some, ap, ◌∙◌}
 use Rattle.std.specs.Prelude.{unwrap_or}
 use Rattle.graph_spec.specs.declared.limits.Limits.{Limits}
 use Rattle.change_spec.specs.Steps.{link}
@@ -9,11 +9,7 @@ use Rattle.graph_load.specs.declared.loader.Loader.{Loader}
 use Rattle.graph_load.specs.TripleGraphs.{need, changed, then_do, from_term, onto_term, linked}
 use Rattle.term_table.specs.Terms.{number_of, same_term}
 use Rattle.graph_load.specs.Loaders.{load_state, Grows, LoaderStep, IsStopped}
-use Rattle.term_table.specs.Entries.{Begins}
-use Rattle.triple_names.proofs.PlaceLaws.{lookup_append}
-
-begins_trans : {X : Type 0} (xs ys zs : List X) → Begins xs ys → Begins ys zs → Begins xs zs
-begins_trans xs ys zs h k = (h.0 ++ k.0, k.1 ∙ ap (λ l. l ++ k.0) h.1 ∙ append_assoc xs h.0 k.0)
+use Rattle.triple_names.proofs.PlaceLaws.{lookup_append, begins_trans}
 
 pub grows_trans : (a b c : Loader) → Grows a b → Grows b c → Grows a c
 grows_trans a b c h k = record {

@@ -14,17 +14,17 @@ use Rattle.triples_read.specs.declared.term.Triple.{Triple}
 use Rattle.px_base.specs.Files.{File, Finds}
 use Rattle.term_table.specs.Terms.{number_of}
 use Rattle.triple_names.specs.Items.{Item, of_term, of_triple, same_triple}
-use Rattle.triple_names.specs.Names.{Names, number_in, triple_number}
-use Rattle.triple_names.specs.TableIndexes.{names_by}
+use Rattle.triple_names.specs.Names.{Names, AreSameNames, number_in, triple_number}
+use Rattle.triple_names.specs.NameTables.{names_by}
 use Rattle.triple_names.specs.Represented.{Represents, is_among}
 use Rattle.triple_names.proofs.ItemLaws.{any_with, triple_is, triple_same}
 use Rattle.triple_names.proofs.ImageSteps.{image_by}
-use Rattle.triple_names.proofs.KeyLaws.{number_by}
+use Rattle.triple_names.proofs.TableLaws.{term_of_load, triple_by}
 use Rattle.graph_load.specs.TripleGraphs.{LoadState, nothing_loaded, names_of}
 use Rattle.graph_load.specs.Loads.{Ending, loaded, syntax, limit, Place, at_start, past, LoadsLine, empty, takes, refuses, neither, LoadsFrom, SpelledIn, RepresentsText}
 use Rattle.graph_load.specs.declared.loader.Loader.{Loader}
-use Rattle.graph_load.specs.Loaders.{load_state, IsSoundLoader}
-use Rattle.graph_load.specs.LoadSteps.{LoadsObservable, FileEnds, RepresentsFile, LoadsWhole, LoadsWholeFile}
+use Rattle.graph_load.specs.Loaders.{load_state, Holds, IsSoundLoader}
+use Rattle.graph_load.specs.LoadSteps.{LoadsObservable, NamesObservable, FileEnds, RepresentsFile, LoadsWhole, LoadsWholeFile}
 use Rattle.graph_load.proofs.LineSteps.{file_ends, observable_there}
 use Rattle.graph_load.proofs.LoadedTriples.{IsRepresented, IsLoadedWith, load_keeps}
 
@@ -150,15 +150,26 @@ whole_there limits files name left finds l w = (w.0, w.1, file_ends limits files
 pub file_graph : (limits : Limits) (files : Option (List File)) (name : List ℕ) (l : Loader) → LoadsWholeFile limits files name l → LoadsObservable limits files name (loaded l.graph.graph)
 file_graph limits files name l w = observable_there limits files name (loaded (load_state l w.0)) w.2
 
--- and the graph represents its triples, by the numbers in the loader's tables
-pub file_represented : (limits : Limits) (files : Option (List File)) (name : List ℕ) (l : Loader) (n : Names) → IsSoundLoader l → n ≡ names_by l.terms l.predicates l.known
+-- the numbers in the loader's tables are those of what it loaded
+same_names : (l : Loader) (triples : List (Triple × ℕ)) (n : Names) → IsSoundLoader l → Holds l triples → n ≡ (names_by l.terms l.predicates l.known [] []).names
+    → AreSameNames n (names_of (load_state l triples))
+same_names l triples n sound holds is (of_term x) = ap (λ (m : Names). number_of m.terms x) is ∙ term_of_load l.terms x
+same_names l triples n sound holds is (of_triple t) = ap (λ (m : Names). triple_number m.triples t) is ∙ triple_by l.terms l.predicates l.known [] t sound.known tt ∙ sym (holds t)
+
+-- the text loads to its graph with them
+pub file_named : (limits : Limits) (files : Option (List File)) (name : List ℕ) (l : Loader) (n : Names) → IsSoundLoader l → n ≡ (names_by l.terms l.predicates l.known [] []).names
+    → LoadsWholeFile limits files name l → NamesObservable limits files name l.graph.graph n
+file_named limits files name l n sound is (triples, holds, ends) = by files ends
+  where
+    by : (seen : Option (List File)) → FileEnds limits seen name (loaded (load_state l triples)) → NamesObservable limits seen name l.graph.graph n
+    by None ends = tt
+    by (Some seen) (text, there, lines) = (text, there, record { state = load_state l triples; ends = lines; graph = refl; names = same_names l triples n sound holds is })
+
+-- and the graph with them represents its triples
+pub file_represented : (limits : Limits) (files : Option (List File)) (name : List ℕ) (l : Loader) (n : Names) → IsSoundLoader l → n ≡ (names_by l.terms l.predicates l.known [] []).names
     → LoadsWholeFile limits files name l → RepresentsFile files name l.graph.graph n
 file_represented limits files name l n sound is (triples, holds, ends) = by files ends
   where
-    same : (p : Item) → number_in n p ≡ number_in (names_of (load_state l triples)) p
-    same (of_term x) = ap (λ (m : Names). number_of m.terms x) is
-    same (of_triple t) = ap (λ (m : Names). triple_number m.triples t) is ∙ number_by l.terms l.predicates l.known t sound.known ∙ sym (holds t)
-
     by : (seen : Option (List File)) → FileEnds limits seen name (loaded (load_state l triples)) → RepresentsFile seen name l.graph.graph n
     by None ends = tt
-    by (Some seen) (text, there, lines) = (text, there, text_represented limits text (load_state l triples) n lines same)
+    by (Some seen) (text, there, lines) = (text, there, text_represented limits text (load_state l triples) n lines (same_names l triples n sound holds is))

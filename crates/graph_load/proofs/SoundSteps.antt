@@ -1,30 +1,23 @@
 -- What steps of a loader keep.
 use Rattle.std.proofs.Common.{◌≡◌, ℕ, ◌+◌, ◌≤◌, Bool, true, false, List, [], ◌∷◌, ◌++◌, length, Some, None, Result, Ok, Err, refl, sym, ap, ◌∙◌, subst, arith, append-nil}
-use Rattle.std.specs.Prelude.{is_some, OnOk, if◌then◌else◌, position, bytes_eq}
+use Rattle.std.specs.Prelude.{OnOk, if◌then◌else◌, bytes_eq}
 use Rattle.std.specs.List.{list_any}
-use Rattle.std.specs.Map.{keys_of}
-use Rattle.std.proofs.lemmas.List.{length-map, length_push}
+use Rattle.std.proofs.lemmas.List.{length_push}
 use Rattle.graph_spec.specs.declared.limits.Limits.{Limits}
 use Rattle.change_spec.specs.Steps.{node, link, apply}
 use Rattle.label_graph.specs.ReservedGraphs.{ReservedGraph, none_reserved}
 use Rattle.triples_read.specs.declared.term.Term.{Term}
-use Rattle.triple_names.specs.declared.triple_table.Key.{Key}
 use Rattle.triple_names.specs.Items.{term_label, predicate_label}
 use Rattle.graph_load.specs.declared.loader.Loader.{Loader}
 use Rattle.graph_load.specs.TripleGraphs.{need, changed, with_graph}
 use Rattle.term_table.specs.Terms.{number_of, same_term}
-use Rattle.triple_names.specs.TableIndexes.{with_predicate, AreKeysIn}
-use Rattle.term_table.specs.Terms.{place_in}
+use Rattle.triple_names.specs.TableIndexes.{with_predicate}
 use Rattle.graph_load.specs.Loaders.{load_state, IsSoundLoader, LoaderStep}
 use Rattle.term_table.specs.Entries.{Begins}
-use Rattle.triple_names.proofs.PlaceLaws.{position_push, lookup_push, keys_push, is_some-lookup}
-use Rattle.triple_names.proofs.KeyLaws.{keys_in_grown}
+use Rattle.triple_names.proofs.PlaceLaws.{lookup_push}
+use Rattle.triple_names.proofs.KeyLaws.{keys_still}
 use Rattle.term_table.proofs.SameTerms.{term_same}
 use Rattle.graph_load.proofs.ChangeLaws.{node_made, link_made, need_new}
-
--- keys stay so where tables grow
-keys_still : (old terms : List (Term × ℕ)) (before predicates : List (List ℕ)) → Begins old terms → Begins before predicates → (entries : List (Key × ℕ)) → AreKeysIn old before entries → AreKeysIn terms predicates entries
-keys_still old terms before predicates b d entries h = subst (λ ts. AreKeysIn ts predicates entries) (sym b.1) (subst (λ ps. AreKeysIn (old ++ b.0) ps entries) (sym d.1) (keys_in_grown old b.0 before d.0 entries h))
 
 -- a term becomes a node
 pub term_steps : (limits : Limits) (x : Term) (old : Loader) (h : ReservedGraph) (n : ℕ) (terms : List (Term × ℕ)) → IsSoundLoader old → number_of old.terms x ≡ None
@@ -46,12 +39,6 @@ term_steps limits x old h n terms sound none made reserved number added =
       };
       grows = record { terms = ((x, n) ∷ [], added); predicates = ([], sym (append-nil old.predicates)); known = refl };
     }
-
-pub term_place : (terms : List (Term × ℕ)) (x : Term) (n : ℕ) → number_of terms x ≡ None → place_in (terms ++ (x, n) ∷ []) x ≡ Some (length terms)
-term_place terms x n none =
-    ap (position (same_term x)) (keys_push terms x n)
-    ∙ position_push (same_term x) (keys_of terms) x (term_same x) (sym (is_some-lookup (same_term x) terms) ∙ ap is_some none)
-    ∙ ap Some (length-map terms (λ e. e.0))
 
 pub term_number : (terms : List (Term × ℕ)) (x : Term) (n : ℕ) → number_of terms x ≡ None → number_of (terms ++ (x, n) ∷ []) x ≡ Some n
 term_number terms x n none = lookup_push (same_term x) terms x n (term_same x) none

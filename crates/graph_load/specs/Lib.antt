@@ -5,3 +5,4 @@ pub mod Hashed
 pub mod Refused
 pub mod Loaders
 pub mod LoadSteps
+pub mod TextFiles

@@ -19,13 +19,18 @@ use Rattle.graph_load.specs.declared.batch.Waiting.{Waiting}
 use Rattle.graph_load.specs.declared.loader.Loader.{Loader}
 use Rattle.graph_load.specs.TripleGraphs.{LoadState, with_triple}
 use Rattle.graph_load.specs.Hashed.{triple_of, hashed}
-use Rattle.graph_load.specs.Loads.{OutcomeOf, Outcome, Ending, loaded, syntax, limit, Place, LoadsFrom, Loads, RepresentsText, at_start}
+use Rattle.graph_load.specs.Loads.{OutcomeOf, Outcome, Ending, loaded, syntax, limit, Place, LoadsFrom, Loads, LoadsNamed, RepresentsText, at_start}
 use Rattle.graph_load.specs.Loaders.{load_state, Holds, IsSoundLoader, IsUntaken}
 
 -- The name is that of an observable file whose text loads to this; of opaque files it says nothing.
 abbrev pub LoadsObservable : Limits → Option (List File) → List ℕ → Outcome → Type 0
 LoadsObservable limits None name o = ⊤
 LoadsObservable limits (Some files) name o = (text : List ℕ) × (content_of files name ≡ Some text) × Loads limits text o
+
+-- The name is that of an observable file whose text loads to this graph, with these numbers.
+abbrev pub NamesObservable : Limits → Option (List File) → List ℕ → Graph → Names → Type 0
+NamesObservable limits None name g n = ⊤
+NamesObservable limits (Some files) name g n = (text : List ℕ) × (content_of files name ≡ Some text) × LoadsNamed limits text g n
 
 -- The name is that of an observable file, and the graph with the names represents the triples of its text.
 abbrev pub RepresentsFile : Option (List File) → List ℕ → Graph → Names → Type 0

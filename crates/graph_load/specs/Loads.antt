@@ -7,9 +7,9 @@ use Rattle.graph_spec.specs.Lines.{Line, cut}
 use Rattle.graph_spec.specs.Graphs.{Graph}
 use Rattle.triples_read.specs.declared.term.Triple.{Triple}
 use Rattle.triples_read.specs.Lines.{Spells, Empty}
-use Rattle.triple_names.specs.Names.{Names}
+use Rattle.triple_names.specs.Names.{Names, AreSameNames}
 use Rattle.triple_names.specs.Represented.{Represents, is_among}
-use Rattle.graph_load.specs.TripleGraphs.{LoadState, nothing_loaded, with_triple}
+use Rattle.graph_load.specs.TripleGraphs.{LoadState, nothing_loaded, names_of, with_triple}
 
 -- what a load comes to, where this is what it leaves of a whole file
 pub data OutcomeOf (X : Type 0) : Type 0 where
@@ -71,6 +71,13 @@ pub record Loads (limits : Limits) (text : List ℕ) (o : Outcome) : Type 0 wher
   pub ending : Ending
   pub ends : LoadsFrom limits (cut text) at_start ending
   pub is : o ≡ outcome_of ending
+
+-- the text loads to this graph, and its terms and triples get these numbers
+pub record LoadsNamed (limits : Limits) (text : List ℕ) (g : Graph) (n : Names) : Type 0 where
+  pub state : LoadState
+  pub ends : LoadsFrom limits (cut text) at_start (loaded state)
+  pub graph : g ≡ state.graph
+  pub names : AreSameNames n (names_of state)
 
 -- one of the lines spells the triple
 abbrev pub SpelledIn : List Line → Triple → Type 0

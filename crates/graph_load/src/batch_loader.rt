@@ -1,7 +1,7 @@
 // Triples are loaded in batches, and looked up ahead together.
 ghost use Rattle.std.specs.Prelude.{◌≡◌, ◌≢◌, [], IfOk, OnOk, IfErr, Err};
 ghost use Rattle.graph_load.specs.TripleGraphs.{nothing_loaded};
-ghost use Rattle.triple_names.specs.TableIndexes.{names_by};
+ghost use Rattle.triple_names.specs.NameTables.{names_by};
 ghost use Rattle.graph_load.specs.Hashed.{triple_of};
 ghost use Rattle.graph_load.specs.Loaders.{load_state, Holds, IsSoundLoader, IsTaken};
 ghost use Rattle.graph_load.specs.LoadSteps.{TellsOutcome, AreLoaded, Stops, OneStops};
@@ -78,12 +78,12 @@ impl BatchLoader {
     }
 
     /// The graph, and the numbers of what is loaded.
-    pub(crate) fn into_parts(self) -> (Graph, Names)
+    pub(crate) fn into_parts(self, alloc: Global) -> (Graph, Names)
         requires { IsSoundLoader self }
         ensures graph { result.0 ≡ self.graph }
-        ensures names { result.1 ≡ names_by self.terms self.predicates self.known }
+        ensures names { result.1 ≡ names_by self.terms self.predicates self.known [] [] }
     {
-        self.loader.into_parts()
+        self.loader.into_parts(alloc)
     }
 
     /// Loads the triples of a batch, in their order.

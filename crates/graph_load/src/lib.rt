@@ -12,5 +12,9 @@ mod hashed;
 mod limited_changes;
 mod loader;
 mod term_changes;
+mod text_shelf;
+mod texts;
 
 pub use files::{LoadError, load, load_named};
+pub use text_shelf::TextShelf;
+pub use texts::load_text;

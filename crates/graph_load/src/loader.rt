@@ -3,7 +3,7 @@ ghost use Rattle.std.specs.Prelude.{◌≡◌, ℕ, List, [], length, position, 
 ghost use Rattle.change_spec.specs.Steps.{node, link};
 ghost use Rattle.graph_load.specs.TripleGraphs.{need, changed, linked, with_triple, nothing_loaded};
 ghost use Rattle.triple_names.specs.Items.{predicate_label};
-ghost use Rattle.triple_names.specs.TableIndexes.{names_by};
+ghost use Rattle.triple_names.specs.NameTables.{names_by};
 ghost use Rattle.term_table.specs.Terms.{number_of, place_in};
 ghost use Rattle.term_table.specs.FoundTerms.{IsFound, IsFoundAs};
 ghost use Rattle.triples_read.specs.declared.term.Term.{Term as TermSeen};
@@ -65,12 +65,12 @@ impl Loader {
     }
 
     /// The graph, and the numbers of what is loaded.
-    pub(crate) fn into_parts(self) -> (Graph, Names)
+    pub(crate) fn into_parts(self, alloc: Global) -> (Graph, Names)
         requires { IsSoundLoader self }
         ensures graph { result.0 ≡ self.graph }
-        ensures names { result.1 ≡ names_by self.terms self.predicates self.known }
+        ensures names { result.1 ≡ names_by self.terms self.predicates self.known [] [] }
     {
-        let names = Names::from_tables(self.terms, self.predicates, self.known);
+        let names = Names::from_tables(alloc, self.terms, self.predicates, self.known);
         (self.graph, names)
     }
 

@@ -1,4 +1,5 @@
 pub mod FrontSteps
+pub mod StepSpans
 pub mod GrownCounts
 pub mod Listed
 pub mod NodeEdges

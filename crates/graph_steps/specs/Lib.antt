@@ -1,4 +1,5 @@
 pub mod StepLists
+pub mod StepSpans
 pub mod NewChanges
 pub mod Counted
 pub mod Degrees

@@ -1,8 +1,6 @@
 -- The steps that the code's values stand for.
-use Rattle.std.specs.Prelude.{◌≡◌, ◌<◌, ℕ, Bool, true, List, map, length}
+use Rattle.std.specs.Prelude.{◌≡◌, ℕ, Bool, List, map, length}
 use Rattle.graph_spec.specs.Graphs.{Graph, label_of, is_live}
-use Rattle.graph_spec.specs.Members.{has}
-use Rattle.change_spec.specs.Named.{is_named}
 use Rattle.change_spec.specs.Steps.{Step, node, link, unlink, drop, relabel, made, is_text}
 use Rattle.change_spec.specs.Places.{CanMake}
 use Rattle.graph_steps.specs.declared.changes.Step.{Step as Asked}
@@ -17,10 +15,6 @@ step_of (Relabel u t) = relabel u t
 
 abbrev pub steps_of : List Asked → List Step
 steps_of ss = map step_of ss
-
--- what a change of several steps keeps: the nodes that its steps name are among these
-abbrev pub AreNamed : List Step → List ℕ → Type 0
-AreNamed c nodes = 1 < length c → (n : ℕ) → is_named c n ≡ true → has nodes n ≡ true
 
 -- whether the number n is live once a step is made, where it was live or wasn't, and the next number was this
 abbrev pub LivesAfter : Step → Bool → ℕ → ℕ → Bool → Type 0

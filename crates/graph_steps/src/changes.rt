@@ -1,12 +1,12 @@
 // Changes as lists of steps, and verdicts on them.
-ghost use Rattle.std.specs.Prelude.{◌≡◌, ◌≤◌, ◌||◌, ◌++◌, ◌∷◌, [], true, IfOk, OnOk, OnErr, ℕ, length, nat_eq};
+ghost use Rattle.std.specs.Prelude.{◌≡◌, ◌<◌, ◌≤◌, ◌+◌, ◌-◌, ◌||◌, ◌++◌, ◌∷◌, [], true, IfOk, OnOk, OnErr, ℕ, length, nat_eq, if◌then◌else◌};
 ghost use Rattle.std.specs.List.{list_any};
-ghost use Rattle.graph_spec.specs.Members.{has};
-ghost use Rattle.change_spec.specs.Steps.{link};
-ghost use Rattle.graph_steps.specs.StepLists.{step_of, steps_of};
+ghost use Rattle.indexmap.specs.IndexMap.{spare};
 ghost use Rattle.change_spec.specs.Named.{is_named, names};
+ghost use Rattle.graph_steps.specs.StepLists.{step_of, steps_of};
+ghost use Rattle.graph_steps.specs.StepSpans.{IsSpan, AreSpans, span_at, widened, Widens};
 
-use indexmap::IndexSet;
+use indexmap::IndexMap;
 use px_base::{Memory, NodeId, Text};
 use smallvec::SmallVec;
 use std::alloc::Global;
@@ -40,6 +40,18 @@ impl MadeWith<Global> for Step {
     }
 }
 
+/// Some of a change's steps: those from the place `first` on, and before the place `past`.
+#[derive(Clone, Copy, Drop)]
+pub struct Span {
+    /// The place of the first one.
+    pub first: usize,
+    /// The place behind the last one.
+    pub past: usize,
+}
+
+// For nodes that steps name.
+type Spans = IndexMap<NodeId, Span>;
+
 /// A change of a graph: a list of steps, each made in the graph that those before it leave. It is seen as that list. It
 /// keeps one step in itself, so that a change of one step takes no memory beside its label.
 ///
@@ -49,16 +61,16 @@ impl MadeWith<Global> for Step {
 ///     change.push(Step::Link(5, 22))?;
 pub struct Change {
     steps: SmallVec<Step, 1>,
-    // From the second step on, the nodes that steps name, and maybe more.
-    named: IndexSet<NodeId>,
+    // From the second step on: for each node that steps name, the span from the first that does to the last.
+    spans: Spans,
 }
 
 impl Drop for Change {
     // By hand, so that no crate above proves how the tables are dropped.
     fn drop(self) {
-        let Change { steps, named } = self;
+        let Change { steps, spans } = self;
         drop(steps);
-        drop(named);
+        drop(spans);
     }
 }
 
@@ -66,7 +78,8 @@ impl Model for Change {
     ghost use Rattle.std.specs.Prelude.{List};
     ghost use Rattle.change_spec.specs.Steps.{Step as Value_of_step};
     ghost use Rattle.change_spec.specs.Codes.{steps_code};
-    ghost use Rattle.graph_steps.specs.StepLists.{steps_of, AreNamed};
+    ghost use Rattle.graph_steps.specs.StepLists.{steps_of};
+    ghost use Rattle.graph_steps.specs.StepSpans.{AreSpans};
 
     ghost Value = { List Value_of_step };
 
@@ -74,7 +87,7 @@ impl Model for Change {
 
     ghost view = { λ c. steps_of c.steps.items };
 
-    ghost invariant = { λ c. AreNamed (steps_of c.steps.items) c.named.keys };
+    ghost invariant = { λ c. AreSpans (steps_of c.steps.items) c.spans.entries };
 }
 
 impl Change {
@@ -84,7 +97,7 @@ impl Change {
     {
         Ok(Change {
             steps: SmallVec::new(alloc),
-            named: IndexSet::new(alloc),
+            spans: IndexMap::new(alloc),
         })
     }
 
@@ -96,7 +109,7 @@ impl Change {
         steps.push_reserved(step);
         Ok(Change {
             steps,
-            named: IndexSet::new(alloc),
+            spans: IndexMap::new(alloc),
         })
     }
 
@@ -106,13 +119,9 @@ impl Change {
         ensures ok { OnOk result (self.new ≡ self.old ++ step_of step ∷ []) }
         ensures err { OnErr result (self.new ≡ self.old) }
     {
-        if self.steps.len() == 1 {
-            name_ends(&mut self.named, &self.steps.as_slice()[0])?;
-        }
-        if self.steps.len() > 0 {
-            name_ends(&mut self.named, &step)?;
-        }
-        self.steps.push(step)?;
+        self.steps.reserve(1)?;
+        note(&mut self.spans, self.steps.as_slice(), &step)?;
+        self.steps.push_reserved(step);
         Ok(())
     }
 
@@ -132,7 +141,22 @@ impl Change {
         if self.steps.len() <= 1 {
             return is_named(self.steps.as_slice(), n);
         }
-        self.named.contains(&n)
+        self.spans.contains_key(&n)
+    }
+
+    /// A span outside which no step names the node: from the first step that does to the last, and the whole change
+    /// where that is no more than one step. Expected O(1), no memory.
+    pub fn span(&self, n: NodeId) -> Span
+        ensures { IsSpan self.now n result }
+    {
+        let len = self.steps.len();
+        if len <= 1 {
+            return Span {
+                first: 0,
+                past: len,
+            };
+        }
+        noted(&self.spans, n)
     }
 }
 
@@ -170,35 +194,115 @@ fn is_named(steps: &[Step], n: NodeId) -> bool
     any_names(steps, n)
 }
 
-// One node more.
-fn name(named: &mut IndexSet<NodeId>, n: NodeId) -> Result<(), Memory>
-    ensures there { OnOk result (has named.new.keys n ≡ true) }
-    ensures kept { (m : ℕ) → has named.old.keys m ≡ true → has named.new.keys m ≡ true }
+// The span that is noted for a node.
+fn noted(spans: &Spans, n: NodeId) -> Span
+    ensures { result ≡ span_at spans.now.entries n }
 {
-    named.insert(n)?;
-    Ok(())
-}
-
-// The nodes that a step names.
-fn name_ends(named: &mut IndexSet<NodeId>, step: &Step) -> Result<(), Memory>
-    ensures there { OnOk result ((m : ℕ) → names m (step_of step.now) ≡ true → has named.new.keys m ≡ true) }
-    ensures kept { (m : ℕ) → has named.old.keys m ≡ true → has named.new.keys m ≡ true }
-{
-    match step {
-        Step::Node(_) => Ok(()),
-        Step::Link(from, to) => name_both(named, *from, *to),
-        Step::Unlink(from, to) => name_both(named, *from, *to),
-        Step::Drop(node) => name(named, *node),
-        Step::Relabel(node, _) => name(named, *node),
+    match spans.get(&n) {
+        Some(span) => *span,
+        None => Span { first: 0, past: 0 },
     }
 }
 
-fn name_both(named: &mut IndexSet<NodeId>, u: NodeId, v: NodeId) -> Result<(), Memory>
-    ensures there { OnOk result ((m : ℕ) → names m (link u v) ≡ true → has named.new.keys m ≡ true) }
-    ensures kept { (m : ℕ) → has named.old.keys m ≡ true → has named.new.keys m ≡ true }
+// Where the span begins once it ends behind a place beyond it: at that place where it was empty.
+fn first_of(span: Span, past: usize) -> usize
+    ensures { result ≡ (if nat_eq span.past 0 then past - 1 else span.first) }
 {
-    name(named, u)?;
-    name(named, v)
+    if span.past == 0 {
+        past.saturating_sub(1)
+    } else {
+        span.first
+    }
+}
+
+fn widened(span: Span, past: usize) -> Span
+    ensures { result ≡ widened span past }
+{
+    Span {
+        first: first_of(span, past),
+        past,
+    }
+}
+
+// The step in front of a place names the node.
+fn name(spans: &mut Spans, n: NodeId, past: usize)
+    requires room { 0 < spare spans.old }
+    ensures named { Widens (λ m. nat_eq m n) past spans.old.entries spans.new.entries }
+    ensures room { spare spans.old ≤ spare spans.new + 1 }
+{
+    let span = widened(noted(spans, n), past);
+    match spans.insert(n, span) {
+        Ok(_) => (),
+        Err(_) => unreachable!(),
+    }
+}
+
+fn name_both(spans: &mut Spans, u: NodeId, v: NodeId, past: usize)
+    requires some { 0 < past }
+    requires room { 2 ≤ spare spans.old }
+    ensures named { Widens (λ m. nat_eq m u || nat_eq m v) past spans.old.entries spans.new.entries }
+    ensures room { spare spans.old ≤ spare spans.new + 2 }
+{
+    name(spans, u, past);
+    name(spans, v, past);
+}
+
+// The nodes that the step in front of a place names.
+fn name_ends(spans: &mut Spans, step: &Step, past: usize)
+    requires some { 0 < past }
+    requires room { 2 ≤ spare spans.old }
+    ensures named { Widens (λ m. names m (step_of step.now)) past spans.old.entries spans.new.entries }
+    ensures room { spare spans.old ≤ spare spans.new + 2 }
+{
+    match step {
+        Step::Node(_) => (),
+        Step::Link(from, to) => name_both(spans, *from, *to, past),
+        Step::Unlink(from, to) => name_both(spans, *from, *to, past),
+        Step::Drop(node) => name(spans, *node, past),
+        Step::Relabel(node, _) => name(spans, *node, past),
+    }
+}
+
+// Notes the first step where it is the only one, since it is noted once a second one comes.
+fn note_first(spans: &mut Spans, steps: &[Step])
+    requires spans { AreSpans (steps_of steps.now) spans.old.entries }
+    requires some { 0 < length steps.now }
+    requires room { 2 ≤ spare spans.old }
+    ensures spans { (n : ℕ) → IsSpan (steps_of steps.now) n (span_at spans.new.entries n) }
+    ensures room { spare spans.old ≤ spare spans.new + 2 }
+{
+    if steps.len() == 1 {
+        name_ends(spans, &steps[0], 1);
+    }
+}
+
+// Notes one more step behind those that there are.
+fn note_next(spans: &mut Spans, steps: &[Step], step: &Step, past: usize)
+    requires spans { AreSpans (steps_of steps.now) spans.old.entries }
+    requires some { 0 < length steps.now }
+    requires past { past ≡ length steps.now + 1 }
+    requires room { 4 ≤ spare spans.old }
+    ensures { AreSpans (steps_of steps.now ++ step_of step.now ∷ []) spans.new.entries }
+{
+    note_first(spans, steps);
+    name_ends(spans, step, past);
+}
+
+// The same, which takes the memory for the ends of both. The first step that comes isn't noted.
+fn note(spans: &mut Spans, steps: &[Step], step: &Step) -> Result<(), Memory>
+    requires { AreSpans (steps_of steps.now) spans.old.entries }
+    ensures ok { OnOk result (AreSpans (steps_of steps.now ++ step_of step.now ∷ []) spans.new.entries) }
+    ensures err { OnErr result (spans.new.entries ≡ spans.old.entries) }
+{
+    if steps.is_empty() {
+        return Ok(());
+    }
+    let Some(past) = steps.len().checked_add(1) else {
+        return Err(Memory);
+    };
+    spans.reserve(4)?;
+    note_next(spans, steps, step, past);
+    Ok(())
 }
 
 /// What an accepted change means for the graph.

@@ -9,7 +9,7 @@ mod judging;
 #[cfg(test)]
 mod tests;
 
-pub use changes::{Change, Step, Verdict};
+pub use changes::{Change, Span, Step, Verdict};
 pub use degrees::{edges_at, is_dropped};
 pub use fronts::{has_edge, has_label, is_seen};
 pub use judging::judge;

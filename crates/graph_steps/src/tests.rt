@@ -151,7 +151,7 @@ fn changes_are_judged(rt: HostRuntime) -> Result<(), Fail> {
     check_rows(&rt, rt.alloc(), &graph)
 }
 
-// Changes of one step and of two, and the nodes that they may name.
+// Changes of one step, of two and of three, the nodes that they may name, and where they name one.
 #[test]
 fn steps_and_names(rt: HostRuntime) -> Result<(), Fail> {
     let mut change = Change::one(rt.alloc(), Step::Drop(2))?;
@@ -161,5 +161,7 @@ fn steps_and_names(rt: HostRuntime) -> Result<(), Fail> {
     assert!(rt; !change.may_name(3) && is_dropped(change.steps(), 2));
     change.push(step_of(rt.alloc(), Relabel(3, b'b'))?)?;
     assert!(rt; change.may_name(3) && !is_dropped(change.steps(), 3));
+    let (first, last) = (change.span(2), change.span(3));
+    assert!(rt; (first.first, first.past) == (0, 1) && (last.first, last.past) == (2, 3));
     Ok(())
 }

@@ -3,7 +3,7 @@ use Rattle.std.proofs.Common.{◌≡◌, ℕ, zero, suc, ◌+◌, ◌-◌, ◌<�
 use Rattle.std.specs.Prelude.{◌||◌, not, is_some, Result, nat_eq, option_and_then, option_map, slice_get, position, bytes_eq, if◌then◌else◌}
 use Rattle.std.specs.List.{list_any, prefix_len, position_or_len}
 use Rattle.std.specs.Option.{option_or}
-use Rattle.std.proofs.lemmas.Bool.{cases_Bool, and_parts, or_parts, eqb-true, eqb-false}
+use Rattle.std.proofs.lemmas.Bool.{cases_Bool, and_parts, eqb-true, eqb-false}
 use Rattle.std.proofs.lemmas.Bool.Decides.{eqb_tells, nat_tests}
 use Rattle.std.proofs.lemmas.List.Quantifiers.{position-Some}
 use Rattle.std.proofs.lemmas.Option.{slice_get-get_or}
@@ -17,9 +17,8 @@ use Rattle.graph_spec.proofs.ListLemmas.{found, is_found}
 use Rattle.label_graph.specs.GraphViews.{label_number}
 use Rattle.change_spec.specs.Steps.{Step, node, link, unlink, drop, relabel, made, after, apply_step, apply_all, label_fits, labelled}
 use Rattle.change_spec.specs.Places.{CanMake}
-use Rattle.change_spec.specs.Named.{names, is_named}
 use Rattle.change_spec.proofs.StepGraphs.{first_made, stepped, label_other, label_gone, label_given}
-use Rattle.change_spec.proofs.StepPlaces.{label_added, label_last, given_made}
+use Rattle.change_spec.proofs.StepPlaces.{label_added, label_last}
 use Rattle.change_spec.proofs.Accepted.{accepted_all}
 use Rattle.graph_steps.specs.NewChanges.{IsNew}
 use Rattle.graph_steps.specs.StepLists.{step_of, steps_of}
@@ -223,21 +222,6 @@ given_next s h n given before can prior live = next (given_by s (length h.alloca
 pub newer : {X : Type 0} (f : X → List ℕ) (a b : Option X) → option_map f (option_or a b) ≡ option_or (option_map f a) (option_map f b)
 newer f None b = refl
 newer f (Some x) b = refl
-
--- a node that no step names keeps its label
-pub label_unnamed : (c : List Step) (g : Graph) (n : ℕ) → n < length g.allocated → is_named c n ≡ false → label_of (after c g) n ≡ label_of g n
-label_unnamed [] g n below off = refl
-label_unnamed (s ∷ ss) g n below off =
-    let both = or_parts (names n s) (is_named ss n) off in
-    let more = given_made s g in
-    label_unnamed ss (made s g) n (omega (arith, below, more)) both.1 ∙ one s both.0
-  where
-    one : (s : Step) → names n s ≡ false → label_of (made s g) n ≡ label_of g n
-    one (node t) h = label_added g t n (λ e. omega (arith, e, below))
-    one (link u v) h = refl
-    one (unlink u v) h = refl
-    one (drop u) h = label_other g.allocated u n None (eqb-false n u h)
-    one (relabel u t) h = label_other g.allocated u n (Some t) (eqb-false n u h)
 
 kept_option : (c : List Step) (g : Graph) (o : Option (List ℕ)) (l : ℕ) → option_and_then (λ t. position (bytes_eq t) g.seen) o ≡ Some l → option_and_then (λ t. position (bytes_eq t) (after c g).seen) o ≡ Some l
 kept_option c g None l e = cc

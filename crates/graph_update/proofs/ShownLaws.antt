@@ -71,9 +71,9 @@ unnamed_new Children c n h = (unnamed_bare c n h).1
 
 -- ---- one more step, and one more neighbour
 
-pub edge_more : (c : List Step) (s : Step) (p n : ℕ) (b : Bool) → edge_after (c ++ s ∷ []) p n b ≡ edge_by s p n (edge_after c p n b)
-edge_more [] s p n b = refl
-edge_more (x ∷ xs) s p n b = edge_more xs s p n (edge_by x p n b)
+pub edge_joined : (xs ys : List Step) (p n : ℕ) (b : Bool) → edge_after (xs ++ ys) p n b ≡ edge_after ys p n (edge_after xs p n b)
+edge_joined [] ys p n b = refl
+edge_joined (x ∷ xs) ys p n b = edge_joined xs ys p n (edge_by x p n b)
 
 abbrev pub one_for : Bool → ℕ
 one_for b = if b then 1 else 0

@@ -1,3 +1,4 @@
+pub mod NamedSteps
 pub mod ShownNeighbours
 pub mod PendingChanges
 pub mod StagedChanges

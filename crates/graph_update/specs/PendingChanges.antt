@@ -1,5 +1,6 @@
 -- A graph, and a change that is to be made in it.
-use Rattle.std.specs.Prelude.{◌≡◌, ℕ, ◌≤◌, ◌^◌, ◌&&◌, not, nat_lt, nat_eq, if◌then◌else◌, Bool, false, List, length, Option, Some, None, refl}
+use Rattle.std.specs.Prelude.{◌≡◌, ℕ, ◌≤◌, ◌^◌, ◌&&◌, not, nat_lt, nat_eq, if◌then◌else◌, Bool, false, List, [], ◌∷◌, length, Option, Some, None, refl}
+use Rattle.std.specs.Option.{option_or}
 use Rattle.std.specs.Coded.{Coded, code_by, coded×}
 use Rattle.bisim_spec.specs.declared.sides.Side.{Side}
 use Rattle.bisim_spec.specs.declared.sides.Side.TheVariants.{Parents, Children}
@@ -39,6 +40,19 @@ given_by (link u v) next n = None
 given_by (unlink u v) next n = None
 given_by (drop u) next n = None
 given_by (relabel u t) next n = if nat_eq n u then Some t else None
+
+-- the label that a step gives the node n by its number
+abbrev pub relabel_by : Step → ℕ → Option (List ℕ)
+relabel_by (node t) n = None
+relabel_by (link u v) n = None
+relabel_by (unlink u v) n = None
+relabel_by (drop u) n = None
+relabel_by (relabel u t) n = if nat_eq n u then Some t else None
+
+-- the label that the last of the steps gives it so
+abbrev pub relabelled : List Step → ℕ → Option (List ℕ)
+relabelled [] n = None
+relabelled (s ∷ ss) n = option_or (relabelled ss n) (relabel_by s n)
 
 -- What a pending change keeps: it is new to the graph, these are the texts of the graph's labels, the graph is sound, so many numbers will be
 -- allocated, and where no step may drop a node none does.

@@ -1,14 +1,12 @@
 -- The neighbours of a node on one side of it, in the graph that steps will leave.
-use Rattle.std.specs.Prelude.{◌≡◌, ℕ, not, Bool, true, false, List, [], ◌∷◌, ◌++◌}
+use Rattle.std.specs.Prelude.{◌≡◌, ℕ, not, Bool, true, false, List, [], ◌∷◌, ◌++◌, Option, None, Some, nat_eq, drop, if◌then◌else◌}
 use Rattle.std.specs.List.{filter}
 use Rattle.bisim_spec.specs.declared.sides.Side.{Side}
 use Rattle.bisim_spec.specs.declared.sides.Side.TheVariants.{Parents, Children}
 use Rattle.graph_spec.specs.Graphs.{Graph, has_edge}
-use Rattle.change_spec.specs.Steps.{Step}
+use Rattle.change_spec.specs.Steps.{Step, node, link, unlink, drop as drop_step, relabel}
 use Rattle.change_spec.specs.Named.{is_dropped}
-use Rattle.change_spec.specs.Shown.{concerned, added_onto, added_from, new_parents, new_children, edge_after}
-use Rattle.graph_steps.specs.declared.changes.Step.{Step as Asked}
-use Rattle.graph_steps.specs.StepLists.{steps_of}
+use Rattle.change_spec.specs.Shown.{concerned, new_parents, new_children, edge_after}
 
 -- an edge joins n to m, which is its neighbour on this side
 abbrev pub joins : Side → Graph → ℕ → ℕ → Bool
@@ -20,10 +18,28 @@ abbrev pub concerned_at : Side → List Step → ℕ → ℕ → Bool
 concerned_at Parents c n m = concerned c m n
 concerned_at Children c n m = concerned c n m
 
--- the neighbour that comes with the step, unless a later step concerns the edge
-abbrev pub added_at : Side → Step → List Step → ℕ → List ℕ
-added_at Parents s rest n = added_onto s rest n
-added_at Children s rest n = added_from s rest n
+-- the neighbour that an edge from u to v joins to n
+abbrev pub other_end : Side → ℕ → ℕ → ℕ → Option ℕ
+other_end Parents n u v = if nat_eq n v then Some u else None
+other_end Children n u v = if nat_eq n u then Some v else None
+
+-- the neighbour that the step links to n
+abbrev pub linked_at : Side → Step → ℕ → Option ℕ
+linked_at side (node t) n = None
+linked_at side (link u v) n = other_end side n u v
+linked_at side (unlink u v) n = None
+linked_at side (drop_step u) n = None
+linked_at side (relabel u t) n = None
+
+-- that neighbour, unless a later step concerns the edge
+abbrev pub unless_later : Side → List Step → ℕ → Option ℕ → Option ℕ
+unless_later side rest n None = None
+unless_later side rest n (Some m) = if concerned_at side rest n m then None else Some m
+
+-- the number, if there is one, in front of others
+abbrev pub with_first : Option ℕ → List ℕ → List ℕ
+with_first None ms = ms
+with_first (Some m) ms = m ∷ ms
 
 -- the neighbours that come with links
 abbrev pub new_at : Side → List Step → ℕ → List ℕ
@@ -47,9 +63,9 @@ shown_at side c n items = kept_at side c n items ++ new_at side c n
 pub record IsFirstKept (side : Side) (c : List Step) (n m : ℕ) (items rest : List ℕ) : Type 0 where
   pub is : kept_at side c n items ≡ m ∷ kept_at side c n rest
 
--- the first of the neighbours that come with steps, and the steps behind it
-pub record IsFirstAdded (side : Side) (n m : ℕ) (ss rest : List Asked) : Type 0 where
-  pub is : new_at side (steps_of ss) n ≡ m ∷ new_at side (steps_of rest) n
+-- the first of the neighbours that come with the steps from a place on, and the place behind its step
+pub record IsFirstAdded (side : Side) (c : List Step) (n m from next : ℕ) : Type 0 where
+  pub is : new_at side (drop from c) n ≡ m ∷ new_at side (drop next c) n
 
 -- a node that goes has no neighbours to show
 abbrev pub AreShown : List Step → ℕ → List ℕ → Type 0

@@ -1,16 +1,36 @@
 // The neighbours of a node in a graph that is shown.
-ghost use Rattle.std.specs.Prelude.{◌≡◌, ◌≤◌, ◌||◌, ◌&&◌, not, ◌∷◌, ◌+◌, ◌-◌, nat_eq, [], IfSome, IfNone, Some, None, Option, false, length, if◌then◌else◌};
+ghost use Rattle.std.specs.Prelude.{◌≡◌, ◌<◌, ◌≤◌, ◌||◌, ◌&&◌, not, ◌∷◌, ◌+◌, ◌-◌, nat_eq, [], IfSome, IfNone, Some, None, Option, false, length, take, drop, if◌then◌else◌};
 ghost use Rattle.std.specs.List.{list_any};
-ghost use Rattle.change_spec.specs.Shown.{concerns as concerning, concerned as concerned_by, added_onto, added_from, edge_by, edge_after as after_steps};
+ghost use Rattle.change_spec.specs.Shown.{concerns as concerning, concerned as concerned_by, edge_by, edge_after as after_steps};
 ghost use Rattle.change_spec.specs.Named.{is_dropped};
 ghost use Rattle.change_spec.specs.Counts.{tally};
 ghost use Rattle.graph_steps.specs.StepLists.{step_of, steps_of};
-ghost use Rattle.graph_update.specs.ShownNeighbours.{concerned_at as concerned_on, added_at, new_at, kept_at, shown_at, comes_at, IsFirstKept, IsFirstAdded, AreShown};
+ghost use Rattle.graph_update.specs.NamedSteps.{AreNaming, AreLeft};
+ghost use Rattle.graph_update.specs.ShownNeighbours.{concerned_at as concerned_on, other_end, linked_at, unless_later, with_first, new_at, kept_at, shown_at, comes_at, IsFirstKept, IsFirstAdded, AreShown};
 
 use bisim_spec::Side;
 use graph_steps::{Change, Step};
 use px_base::NodeId;
 use std::marker::Model;
+
+// The steps from one place on, and before another.
+fn between(steps: &[Step], first: usize, past: usize) -> &[Step]
+    requires order { first ≤ past }
+    requires within { past ≤ length steps.now }
+    ensures { steps_of result.now ≡ take (past - first) (drop first (steps_of steps.now)) }
+{
+    &steps[first..past]
+}
+
+/// Of the steps from a place on, those from the first to the last that names a node.
+pub(crate) fn naming(change: &Change, from: usize, n: NodeId) -> &[Step]
+    requires { from ≤ length change.now }
+    ensures { AreNaming n (drop from change.now) (steps_of result.now) }
+{
+    let span = change.span(n);
+    let first = span.first.max(from);
+    between(change.steps(), first, span.past.max(first))
+}
 
 // Whether both are those.
 fn is_pair(p: NodeId, n: NodeId, u: NodeId, v: NodeId) -> bool
@@ -62,12 +82,21 @@ fn concerned_at(steps: &[Step], side: Side, n: NodeId, m: NodeId) -> bool
     }
 }
 
-// The same of a node that stays. Steps are looked through only where one may name the neighbour.
+// Whether a step from a place on concerns the edge that joins a node which stays to its neighbour. It names the neighbour.
+fn concerned_from(change: &Change, from: usize, side: Side, n: NodeId, m: NodeId) -> bool
+    requires place { from ≤ length change.now }
+    requires stays { is_dropped change.now n ≡ false }
+    ensures { result ≡ concerned_on side (drop from change.now) n m }
+{
+    concerned_at(naming(change, from, m), side, n, m)
+}
+
+// The same of all steps.
 fn is_concerned(change: &Change, side: Side, n: NodeId, m: NodeId) -> bool
     requires { is_dropped change.now n ≡ false }
     ensures { result ≡ concerned_on side change.now n m }
 {
-    change.may_name(m) && concerned_at(change.steps(), side, n, m)
+    concerned_from(change, 0, side, n, m)
 }
 
 // The first of the neighbours that no step concerns, and those behind it.
@@ -92,57 +121,90 @@ fn first_kept<'a>(
     None
 }
 
-// The node from which the step links to n, unless a later step concerns that edge.
-fn linked_onto(step: &Step, later: &[Step], n: NodeId) -> Option<NodeId>
-    ensures some { IfSome result (λ p. added_onto (step_of step.now) (steps_of later.now) n ≡ p ∷ []) }
-    ensures none { IfNone result (added_onto (step_of step.now) (steps_of later.now) n ≡ []) }
+// The other end, where the first is the node.
+fn other_if(n: NodeId, end: NodeId, other: NodeId) -> Option<NodeId>
+    ensures { result ≡ (if nat_eq n end then Some other else None) }
 {
-    let Step::Link(u, v) = step else {
-        return None;
-    };
-    if n == *v && !concerned(later, *u, n) {
-        Some(*u)
-    } else {
-        None
-    }
+    if n == end { Some(other) } else { None }
 }
 
-// The node to which the step links from n, unless a later step concerns that edge.
-fn linked_from(step: &Step, later: &[Step], n: NodeId) -> Option<NodeId>
-    ensures some { IfSome result (λ m. added_from (step_of step.now) (steps_of later.now) n ≡ m ∷ []) }
-    ensures none { IfNone result (added_from (step_of step.now) (steps_of later.now) n ≡ []) }
-{
-    let Step::Link(u, v) = step else {
-        return None;
-    };
-    if n == *u && !concerned(later, n, *v) {
-        Some(*v)
-    } else {
-        None
-    }
-}
-
-// The neighbour that comes with the step.
-fn linked(step: &Step, later: &[Step], side: Side, n: NodeId) -> Option<NodeId>
-    ensures some { IfSome result (λ m. added_at side (step_of step.now) (steps_of later.now) n ≡ m ∷ []) }
-    ensures none { IfNone result (added_at side (step_of step.now) (steps_of later.now) n ≡ []) }
+// The neighbour that an edge from u to v joins to the node.
+fn other_end(side: Side, n: NodeId, u: NodeId, v: NodeId) -> Option<NodeId>
+    ensures { result ≡ other_end side n u v }
 {
     match side {
-        Side::Parents => linked_onto(step, later, n),
-        Side::Children => linked_from(step, later, n),
+        Side::Parents => other_if(n, v, u),
+        Side::Children => other_if(n, u, v),
     }
 }
 
-// The first of the neighbours that come with the steps, and the steps behind it.
-fn first_added<'a>(steps: &'a [Step], side: Side, n: NodeId) -> Option<(NodeId, &'a [Step])>
-    ensures some { IfSome result (λ f. IsFirstAdded side n f.0 steps.now f.1.now) }
-    ensures none { IfNone result (new_at side (steps_of steps.now) n ≡ []) }
+// The neighbour that the step links to the node.
+fn linked_to(step: &Step, side: Side, n: NodeId) -> Option<NodeId>
+    ensures { result ≡ linked_at side (step_of step.now) n }
 {
-    let mut left = steps;
-    while let Some((step, rest)) = left.split_first() {
-        left = rest;
-        if let Some(m) = linked(step, rest, side, n) {
-            return Some((m, rest));
+    match step {
+        Step::Link(u, v) => other_end(side, n, *u, *v),
+        _ => None,
+    }
+}
+
+// The step at a place.
+fn step_at(change: &Change, i: usize) -> &Step
+    requires { i < length change.now }
+    ensures { drop i change.now ≡ step_of result.now ∷ drop (i + 1) change.now }
+{
+    &change.steps()[i]
+}
+
+// The neighbour, unless a step from a place on concerns its edge.
+fn unless_concerned(
+    change: &Change,
+    from: usize,
+    side: Side,
+    n: NodeId,
+    m: NodeId,
+) -> Option<NodeId>
+    requires place { from ≤ length change.now }
+    requires stays { is_dropped change.now n ≡ false }
+    ensures { result ≡ unless_later side (drop from change.now) n (Some m) }
+{
+    if concerned_from(change, from, side, n, m) {
+        None
+    } else {
+        Some(m)
+    }
+}
+
+// The neighbour that comes with the step at a place, behind which the next one stands.
+fn linked(change: &Change, i: usize, next: usize, side: Side, n: NodeId) -> Option<NodeId>
+    requires place { i < length change.now }
+    requires next { next ≡ i + 1 }
+    requires stays { is_dropped change.now n ≡ false }
+    ensures { new_at side (drop i change.now) n ≡ with_first result (new_at side (drop next change.now) n) }
+{
+    match linked_to(step_at(change, i), side, n) {
+        Some(m) => unless_concerned(change, next, side, n, m),
+        None => None,
+    }
+}
+
+// The first of the neighbours that come with the steps from a place on, and the place behind its step. No step from the
+// place `past` on names the node.
+fn first_added(
+    change: &Change,
+    side: Side,
+    n: NodeId,
+    from: usize,
+    past: usize,
+) -> Option<(NodeId, usize)>
+    requires { AreLeft change.now n from past }
+    ensures some { IfSome result (λ f. IsFirstAdded side change.now n f.0 from f.1) }
+    ensures left { IfSome result (λ f. AreLeft change.now n f.1 past) }
+    ensures none { IfNone result (new_at side (drop from change.now) n ≡ []) }
+{
+    for i in from..past {
+        if let Some(m) = linked(change, i, i + 1, side, n) {
+            return Some((m, i + 1));
         }
     }
     None
@@ -181,12 +243,12 @@ fn brought_at(steps: &[Step], side: Side, n: NodeId, m: NodeId) -> bool
     }
 }
 
-// The same of a node that stays. Steps are looked through only where one may name the neighbour.
+// The same of a node that stays, where the steps name the neighbour.
 fn is_brought(change: &Change, side: Side, n: NodeId, m: NodeId) -> bool
     requires { is_dropped change.now n ≡ false }
     ensures { result ≡ comes_at side change.now n m }
 {
-    change.may_name(m) && brought_at(change.steps(), side, n, m)
+    brought_at(naming(change, 0, m), side, n, m)
 }
 
 fn one_if(b: bool) -> usize
@@ -208,29 +270,24 @@ fn count_back(items: &[NodeId], change: &Change, side: Side, n: NodeId) -> usize
 }
 
 // How many neighbours come with the steps.
-fn count_new(steps: &[Step], side: Side, n: NodeId) -> usize
-    requires { length steps.now ≤ 1024 }
-    ensures { result ≡ length (new_at side (steps_of steps.now) n) }
+fn count_new(change: &Change, side: Side, n: NodeId) -> usize
+    requires { is_dropped change.now n ≡ false }
+    ensures { result ≡ length (new_at side change.now n) }
 {
+    let span = change.span(n);
     let mut count = 0;
-    let mut left = steps;
-    while let Some((step, rest)) = left.split_first() {
-        left = rest;
-        count += one_if(linked(step, rest, side, n).is_some());
+    for i in span.first..span.past {
+        count += one_if(linked(change, i, i + 1, side, n).is_some());
     }
     count
 }
 
 /// How many of the neighbours that a node will have it hasn't yet, where it has these.
 pub(crate) fn fresh_count(items: &[NodeId], change: &Change, side: Side, n: NodeId) -> usize
-    requires few { length change.now ≤ 1024 }
-    requires stays { is_dropped change.now n ≡ false }
+    requires { is_dropped change.now n ≡ false }
     ensures { result ≡ length (new_at side change.now n) - tally (comes_at side change.now n) items.now }
 {
-    if !change.may_name(n) {
-        return 0;
-    }
-    let new = count_new(change.steps(), side, n);
+    let new = count_new(change, side, n);
     if new == 0 {
         return 0;
     }
@@ -238,31 +295,34 @@ pub(crate) fn fresh_count(items: &[NodeId], change: &Change, side: Side, n: Node
 }
 
 /// The neighbours of a node, each once, in no stated order; seen as the list of those that are left. They are read from
-/// the graph's own lists, and then from the steps of the change. No memory. The next one is O(1), but O(s) where one of
-/// s steps names the node or drops another.
+/// the graph's own lists, and then from the steps of the change. No memory. The next one is O(1) where the change neither
+/// names the node nor drops another. Else it takes a look-up for each neighbour of the graph that is passed over and for
+/// each link at the node, and goes through the steps from the first to the last that names the neighbour; the links are
+/// found among the steps from the first to the last that names the node.
 #[derive(Drop)]
 pub struct Neighbours<'a> {
     // As they are.
     first: &'a [NodeId],
     // Those that no step concerns.
     second: &'a [NodeId],
-    // Those that these steps add.
-    left: &'a [Step],
+    // Those that the steps add from one place on, and before another.
+    from: usize,
+    past: usize,
     change: &'a Change,
     side: Side,
     node: NodeId,
 }
 
 impl<'a> Model for Neighbours<'a> {
-    ghost use Rattle.std.specs.Prelude.{List, ℕ, ◌++◌};
-    ghost use Rattle.graph_steps.specs.StepLists.{steps_of};
+    ghost use Rattle.std.specs.Prelude.{List, ℕ, ◌++◌, drop};
+    ghost use Rattle.graph_update.specs.NamedSteps.{AreLeft};
     ghost use Rattle.graph_update.specs.ShownNeighbours.{kept_at, new_at, AreShown};
 
     ghost Value = { List ℕ };
 
-    ghost view = { λ n. n.first.now ++ (kept_at n.side n.change.now n.node n.second.now ++ new_at n.side (steps_of n.left.now) n.node) };
+    ghost view = { λ n. n.first.now ++ (kept_at n.side n.change.now n.node n.second.now ++ new_at n.side (drop n.from n.change.now) n.node) };
 
-    ghost invariant = { λ n. AreShown n.change.now n.node n.second.now };
+    ghost invariant = { λ n. AreShown n.change.now n.node n.second.now × AreLeft n.change.now n.node n.from n.past };
 }
 
 impl<'a> Neighbours<'a> {
@@ -270,10 +330,12 @@ impl<'a> Neighbours<'a> {
     pub(crate) fn of(nodes: &'a [NodeId], change: &'a Change) -> Neighbours<'a>
         ensures { result ≡ nodes.now }
     {
+        let end = change.steps().len();
         Neighbours {
             first: nodes,
             second: &[],
-            left: &[],
+            from: end,
+            past: end,
             change,
             side: Side::Parents,
             node: 0,
@@ -290,10 +352,12 @@ impl<'a> Neighbours<'a> {
         requires { is_dropped change.now node ≡ false }
         ensures { result ≡ shown_at side change.now node nodes.now }
     {
+        let span = change.span(node);
         Neighbours {
             first: &[],
             second: nodes,
-            left: change.steps(),
+            from: span.first,
+            past: span.past,
             change,
             side,
             node,
@@ -320,11 +384,16 @@ impl<'a> Iterator for Neighbours<'a> {
             return Some(node);
         }
         self.second = &[];
-        if let Some((node, rest)) = first_added(self.left, self.side, self.node) {
-            self.left = rest;
+        if let Some((node, next)) = first_added(
+            self.change,
+            self.side,
+            self.node,
+            self.from,
+            self.past,
+        ) {
+            self.from = next;
             return Some(node);
         }
-        self.left = &[];
         None
     }
 }

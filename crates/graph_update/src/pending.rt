@@ -13,9 +13,9 @@ ghost use Rattle.change_spec.specs.Named.{takes_away, is_named, is_dropped};
 ghost use Rattle.graph_steps.specs.StepLists.{step_of, steps_of};
 ghost use Rattle.graph_steps.specs.NewChanges.{IsNew};
 ghost use Rattle.graph_update.specs.ShownNeighbours.{joins};
-ghost use Rattle.graph_update.specs.PendingChanges.{graph_after, lost_at, is_added, given_by};
+ghost use Rattle.graph_update.specs.PendingChanges.{graph_after, lost_at, is_added, given_by, relabel_by, relabelled};
 
-use crate::neighbours::{Neighbours, fresh_count};
+use crate::neighbours::{Neighbours, fresh_count, naming};
 use bisim_spec::Side;
 use graph_steps::{Change, Step, edges_at, has_edge, is_dropped, is_seen};
 use label_graph::{Graph, Labels};
@@ -72,7 +72,8 @@ impl<'a> After<'a> {
         }
     }
 
-    /// Whether the number is that of a live node. O(1), but O(s) where one of s steps names the node; no memory.
+    /// Whether the number is that of a live node. Expected O(1); where steps take nodes away, the steps from the first to
+    /// the last that names the node are gone through; no memory.
     pub fn is_live(&self, n: NodeId) -> bool
         ensures { result ≡ is_live (graph_after self.now) n }
     {
@@ -81,9 +82,9 @@ impl<'a> After<'a> {
     }
 
     /// The number of a live node's label. Labels that are not seen yet have the next numbers, in the order of the steps
-    /// that bring them. O(1), but O(s) for a node that one of s steps adds or names; where a step gives it a label of b
-    /// bytes, expected O(s + b), and where that isn't seen yet s look-ups of labels and at most s^2 / 2 comparisons of
-    /// them; no memory.
+    /// that bring them. Expected O(1), and the steps from the first to the last that names the node are gone through, but
+    /// all s of them for a node that one of them adds; where a step gives it a label of b bytes, expected O(b) more, and
+    /// where that isn't seen yet s look-ups of labels and at most s^2 / 2 comparisons of them; no memory.
     pub fn label(&self, n: NodeId) -> u32
         requires live { IsTrue (is_live (graph_after self.now) n) }
         ensures text { slice_get (graph_after self.now).seen result ≡ label_of (graph_after self.now) n }
@@ -97,14 +98,14 @@ impl<'a> After<'a> {
         }
     }
 
-    // The label that a step gives the node, the last one where several do. Steps are looked through only where one may
-    // add the node or name it.
+    // The label that a step gives the node, the last one where several do. All steps are looked through only where one
+    // adds the node.
     fn given_label(&self, n: NodeId) -> Option<&Text>
         requires live { IsTrue (is_live (graph_after self.now) n) }
         ensures { label_of (graph_after self.now) n ≡ option_or (option_map (λ t. t.now) result) (label_of self.now.before n) }
     {
-        if n < self.graph.created() && !self.change.may_name(n) {
-            return None;
+        if n < self.graph.created() {
+            return relabelled(naming(self.change, 0, n), n);
         }
         given_label(self.graph, self.change.steps(), n)
     }
@@ -134,7 +135,8 @@ impl<'a> After<'a> {
 
     /// The nodes from which an edge leads to this one, each once, in no stated order; none where the number isn't that
     /// of a live node. It is one step, one for each of them, and one for each edge to the node that the change takes
-    /// away. O(1), but O(p + s^2) where one of s steps names the node, which has p parents; no memory.
+    /// away. Expected O(1). Where a step names the node, those from the first to the last that does are gone through, and
+    /// for each of its parents in the graph, and each that a step links, those that may name that one; no memory.
     pub fn parents<L: Ledger>(&self, n: NodeId, steps: &mut Steps<L>) -> Neighbours<'_>
         ensures parents { Lists (λ u. has_edge (graph_after self.now) u n) result }
         ensures cost { steps.new ≡ steps.old + 1 + length result + lost_onto self.now.before (graph_after self.now) n }
@@ -144,7 +146,8 @@ impl<'a> After<'a> {
 
     /// The nodes to which an edge leads from this one, each once, in no stated order; none where the number isn't that
     /// of a live node. It is one step, one for each of them, and one for each edge from the node that the change takes
-    /// away. O(1), but O(c + s^2) where one of s steps names the node, which has c children; no memory.
+    /// away. Expected O(1). Where a step names the node, those from the first to the last that does are gone through, and
+    /// for each of its children in the graph, and each that a step links, those that may name that one; no memory.
     pub fn children<L: Ledger>(&self, n: NodeId, steps: &mut Steps<L>) -> Neighbours<'_>
         ensures children { Lists (has_edge (graph_after self.now) n) result }
         ensures cost { steps.new ≡ steps.old + 1 + length result + lost_from self.now.before (graph_after self.now) n }
@@ -189,11 +192,11 @@ impl<'a> After<'a> {
     }
 }
 
-// Whether a step takes the node away. Steps are looked through only where one may name it.
+// Whether a step takes the node away. It is one that names the node.
 fn goes(change: &Change, n: NodeId) -> bool
     ensures { result ≡ is_dropped change.now n }
 {
-    change.may_name(n) && is_dropped(change.steps(), n)
+    is_dropped(naming(change, 0, n), n)
 }
 
 fn either(a: bool, b: bool) -> bool
@@ -303,6 +306,27 @@ fn label_if(wanted: bool, label: &Text) -> Option<&Text>
     ensures { option_map (λ t. t.now) result ≡ (if wanted then Some label.now else None) }
 {
     if wanted { Some(label) } else { None }
+}
+
+// The label that the step gives a node by its number.
+fn relabel_by(step: &Step, n: NodeId) -> Option<&Text>
+    ensures { option_map (λ t. t.now) result ≡ relabel_by (step_of step.now) n }
+{
+    match step {
+        Step::Relabel(node, label) => label_if(n == *node, label),
+        _ => None,
+    }
+}
+
+// The label that the last of the steps gives a node by its number.
+fn relabelled(steps: &[Step], n: NodeId) -> Option<&Text>
+    ensures { option_map (λ t. t.now) result ≡ relabelled (steps_of steps.now) n }
+{
+    let mut given = None;
+    for i in 0..steps.len() {
+        given = relabel_by(&steps[i], n).or(given);
+    }
+    given
 }
 
 // The label that the step gives a node, where so many numbers are allocated before it.

@@ -1,26 +1,25 @@
 -- A level on the way to the graph that a change leaves.
-use Rattle.std.proofs.Common.{◌≡◌, ℕ, zero, suc, ◌+◌, ◌<◌, ◌≤◌, ◌^◌, List, [], ◌∷◌, ◌++◌, length, Option, Some, None, IsSome, IsTrue, is_some, refl, sym, ◌∙◌, ap, subst, arith, inl, inr, true, false, Bool, cond, take, get_or, true≢false}
-use Rattle.std.specs.Prelude.{nat_eq, ◌&&◌, ◌||◌, not, ◌⊎◌}
+use Rattle.std.proofs.Common.{◌≡◌, ℕ, zero, suc, ◌+◌, ◌<◌, ◌≤◌, ◌^◌, List, [], ◌∷◌, ◌++◌, length, Option, Some, None, IsSome, IsTrue, is_some, refl, sym, ◌∙◌, ap, subst, arith, inl, inr, true, false, Bool, cond, take, true≢false}
+use Rattle.std.specs.Prelude.{nat_eq, ◌&&◌, ◌||◌, not}
 use Rattle.std.specs.FinSet as set
-use Rattle.std.proofs.lemmas.Bool.{false_from_ne_true, both_ways, cases_Bool, cases_lt}
+use Rattle.std.proofs.lemmas.Bool.{false_from_ne_true, both_ways, cases_lt}
 use Rattle.std.proofs.lemmas.Bool.Decides.{eqb_tells, Decides-eqb}
-use Rattle.std.proofs.lemmas.List.{take_more}
-use Rattle.graph_spec.specs.Graphs.{Graph, IsGraph, is_live, has_edge}
+use Rattle.graph_spec.specs.Graphs.{Graph, IsGraph, is_live}
 use Rattle.graph_spec.specs.Members.{at, has}
 use Rattle.graph_spec.specs.Shapes.{shape_of}
-use Rattle.graph_spec.proofs.GraphLaws.{is_shape}
 use Rattle.bisim_spec.specs.Reach.{within_distance}
 use Rattle.bisim_spec.proofs.Reached.{within_more}
 use Rattle.level_update.specs.MovedLevels.{HasMovedAffected}
-use Rattle.std.proofs.Math.Bool.{or-true, or-false}
+use Rattle.std.proofs.Math.Bool.{or-false}
 use Rattle.label_graph.specs.GraphViews.{label_number}
 use Rattle.bisim_spec.proofs.Bisimilar.{some_of}
 use Rattle.bisim_spec.specs.IndexGraphs.{support_at}
 use Rattle.one_spec.specs.EdgeCounts.{AreEdgeCounts}
-use Rattle.graph_effects.specs.Effects.{EffectLists, AreEffects, same_pair, has_pair, without_edges, with_edges}
+use Rattle.graph_effects.specs.Effects.{EffectLists, AreEffects, without_edges, with_edges}
 use Rattle.graph_effects.specs.EffectBlocks.{HaveNodesMoved}
-use Rattle.graph_effects.proofs.EdgeLists.{pair_at, pair_there, counts_lowered, counts_raised, lowered_some, counts_agree, counts_few, edge_there}
-use Rattle.graph_effects.proofs.EffectLaws.{came_parts, gone_parts, live_was, lost_edges, added_absent, left_in_both, counts_after, moved_none, moved_came, moved_gone, moved_labels, moved_partition, moved_named, has_last, live_stayed}
+use Rattle.graph_effects.proofs.EdgeLists.{pair_at, counts_lowered, counts_raised, lowered_some, counts_agree, counts_few}
+use Rattle.graph_effects.proofs.EffectLaws.{gone_parts, live_was, lost_edges, added_absent, off_edges, off_left, counts_after, put_else, moved_none, moved_came, moved_gone, moved_labels, moved_partition, moved_named, has_last, live_stayed}
+use Rattle.graph_effects.proofs.ListedEffects.{within_after}
 use Rattle.keyed_quotient.specs.KeyedQuotients.{KeyedQuotient, key_at}
 use Rattle.keyed_quotient.specs.Changes.{KeyedChanges, no_keyed_changes, blocks_as_shown, labels_as_shown, support_as_shown, shown_key}
 use Rattle.level_spec.specs.Keyed.{KeysStay, AreLabelled, IsLevelOf, LabelsGoUp, first_number}
@@ -31,7 +30,7 @@ use Rattle.level_update.specs.LevelEffects.{KeyHasLabel, own_number, HasOwnKey, 
 use Rattle.level_update.proofs.Bases.{next_is, AreBases}
 use Rattle.level_update.proofs.Unchanged.{none_blocks, none_labels, none_support, none_key}
 
-same_some : {X : Type 0} (x y : X) → Some x ≡ Some y → x ≡ y
+pub same_some : {X : Type 0} (x y : X) → Some x ≡ Some y → x ≡ y
 same_some x y e = cc
 
 -- ---- labels and keys that stay
@@ -158,16 +157,6 @@ begin_joined g2 came f d d2 (suc i) n label number below others is own j begin =
     still : (b : ℕ) → at (labels_shown f d2 i) b ≡ at (labels_shown f d i) b
     still b = ap (λ (c : KeyedChanges). at (labels_as_shown (level_at f i) c) b) (others i (λ e. absurd (omega (arith, e))))
 
--- the number isn't a node of the graph, so no edge is at it
-off_edges : (g : Graph) (n u v : ℕ) → IsGraph g → is_live g n ≡ false → has_edge g u v ≡ true → (nat_eq u n ≡ false) × (nat_eq v n ≡ false)
-off_edges g n u v graph dead on = (
-  false_from_ne_true (nat_eq u n) (λ h. elim (eqb_tells u n) [ inl s ↦ true≢false (sym (graph.from u v on) ∙ ap (is_live g) s.1 ∙ dead) | inr o ↦ absurd (true≢false (sym h ∙ o.0)) ]),
-  false_from_ne_true (nat_eq v n) (λ h. elim (eqb_tells v n) [ inl s ↦ true≢false (sym (graph.onto u v on) ∙ ap (is_live g) s.1 ∙ dead) | inr o ↦ absurd (true≢false (sym h ∙ o.0)) ]),
-)
-
-pub put_off : (n : ℕ) (o : Option ℕ) (block block2 : List (Option ℕ)) → ((m : ℕ) → at block2 m ≡ cond (nat_eq m n) o (at block m)) → (m : ℕ) → nat_eq m n ≡ false → at block2 m ≡ at block m
-put_off n o block block2 put m h = put m ∙ ap (λ t. cond t o (at block m)) h
-
 -- the node that has come is in the block of its own number
 pub own_joined : (f : List KeyedQuotient) (d d2 : List KeyedChanges) (i n label number : ℕ) → AreSameBut i d d2 → own_number f d label n i ≡ Some number → IsNodeJoined f i n label number d d2
     → HasOwnKey f d2 i n
@@ -192,24 +181,15 @@ way_joined g g2 all came f d d2 i n label number graph dead below w others is ow
       j.label_is is;
   own = λ m h. elim (eqb_tells m n) [
     | inl s ↦ subst (HasOwnKey f d2 i) (sym s.1) (own_joined f d d2 i n label number others own j)
-    | inr o ↦ own_stays f d d2 i m others (put_off n (Some j.block) (blocks_shown f d i) (blocks_shown f d2 i) j.blocks m o.0) j.has_block.keys_stay.kept
+    | inr o ↦ own_stays f d d2 i m others (put_else n (Some j.block) (blocks_shown f d i) (blocks_shown f d2 i) j.blocks m o.0) j.has_block.keys_stay.kept
         (w.own m (sym (or-false (has came m)) ∙ sym (ap (λ b. has came m || b) o.0) ∙ sym (has_last came n m) ∙ h))
   ];
   supports = counts_agree g (blocks_shown f d i) (blocks_shown f d2 i) (support_shown f d i) (support_shown f d2 i) w.supports (λ u v on.
       let off = off_edges g n u v graph dead on in
-      (put_off n (Some j.block) (blocks_shown f d i) (blocks_shown f d2 i) j.blocks u off.0, put_off n (Some j.block) (blocks_shown f d i) (blocks_shown f d2 i) j.blocks v off.1)) counts;
+      (put_else n (Some j.block) (blocks_shown f d i) (blocks_shown f d2 i) j.blocks u off.0, put_else n (Some j.block) (blocks_shown f d i) (blocks_shown f d2 i) j.blocks v off.1)) counts;
 }
 
--- the nodes below a place are lists that grow by one
-pub nodes_next : (xs : List ℕ) (i : ℕ) → i < length xs → take (i + 1) xs ≡ take i xs ++ get_or xs i 0 ∷ []
-nodes_next xs i h = take_more xs i 0 h
-
 -- ---- nodes that go
-
--- an edge that is left is at no node that goes
-off_left : (g g2 : Graph) (e : EffectLists) (n u v : ℕ) → AreEffects g g2 e → IsGraph g2 → is_live g2 n ≡ false → has_edge (without_edges g e.lost) u v ≡ true
-    → (nat_eq u n ≡ false) × (nat_eq v n ≡ false)
-off_left g g2 e n u v w graph dead on = off_edges g2 n u v graph dead (left_in_both g g2 e u v w on).1
 
 pub way_left : (g g2 : Graph) (e : EffectLists) (gone : List ℕ) (f : List KeyedQuotient) (d d2 : List KeyedChanges) (i n : ℕ) → AreEffects g g2 e → IsGraph g2 → IsTrue (has e.gone n)
     → IsLevelOnWay g2 (without_edges g e.lost) e.came gone f d i → AreSameBut i d d2 → IsNodeLeft f i n d d2
@@ -218,10 +198,10 @@ way_left g g2 e gone f d d2 i n w graph on way others l =
     let parts = gone_parts g g2 e n w on in
     way_kept g2 (without_edges g e.lost) (without_edges g e.lost) e.came gone (gone ++ n ∷ []) f d d2 i way (record { labels = l.labels; keys = l.keys; others = others }) l.over
     (moved_gone g2 (blocks_at f i) (blocks_shown f d i) (blocks_shown f d2 i) (at (labels_shown f d i)) e.came gone n way.nodes l.blocks (live_was g g2 e n w parts.0))
-    (λ m h. put_off n None (blocks_shown f d i) (blocks_shown f d2 i) l.blocks m (false_from_ne_true (nat_eq m n) (λ s. true≢false (sym h ∙ ap (has e.came) ((Decides-eqb m n).0 s) ∙ live_was g g2 e n w parts.0))))
+    (λ m h. put_else n None (blocks_shown f d i) (blocks_shown f d2 i) l.blocks m (false_from_ne_true (nat_eq m n) (λ s. true≢false (sym h ∙ ap (has e.came) ((Decides-eqb m n).0 s) ∙ live_was g g2 e n w parts.0))))
     (counts_agree (without_edges g e.lost) (blocks_shown f d i) (blocks_shown f d2 i) (support_shown f d i) (support_shown f d2 i) way.supports (λ u v there.
     let off = off_left g g2 e n u v w graph parts.1 there in
-    (put_off n None (blocks_shown f d i) (blocks_shown f d2 i) l.blocks u off.0, put_off n None (blocks_shown f d i) (blocks_shown f d2 i) l.blocks v off.1)) l.supports)
+    (put_else n None (blocks_shown f d i) (blocks_shown f d2 i) l.blocks u off.0, put_else n None (blocks_shown f d i) (blocks_shown f d2 i) l.blocks v off.1)) l.supports)
 
 -- ---- edges
 
@@ -259,65 +239,17 @@ pub old_some : (g g2 h : Graph) (e : EffectLists) (f : List KeyedQuotient) (d : 
     → IsLevelOnWay g2 h e.came [] f d i → IsSome (at (blocks_shown f d i) n)
 old_some g g2 h e f d i n w base l live way = ap is_some (way.nodes.others n (live_was g g2 e n w live) refl) ∙ (base.levels i l).partition.live n live
 
-lost_edge : (g g2 : Graph) (e : EffectLists) (j : ℕ) → AreEffects g g2 e → j < length e.lost → has_edge g (pair_at e.lost j).0 (pair_at e.lost j).1 ≡ true
-lost_edge g g2 e j w h = (lost_edges g g2 e w).there (pair_at e.lost j).0 (pair_at e.lost j).1 (pair_there e.lost j h)
-
-pub lost_from : (g g2 : Graph) (e : EffectLists) (j : ℕ) → AreEffects g g2 e → IsGraph g → j < length e.lost → IsTrue (is_live g (pair_at e.lost j).0)
-lost_from g g2 e j w graph h = graph.from (pair_at e.lost j).0 (pair_at e.lost j).1 (lost_edge g g2 e j w h)
-
-pub lost_onto : (g g2 : Graph) (e : EffectLists) (j : ℕ) → AreEffects g g2 e → IsGraph g → j < length e.lost → IsTrue (is_live g (pair_at e.lost j).1)
-lost_onto g g2 e j w graph h = graph.onto (pair_at e.lost j).0 (pair_at e.lost j).1 (lost_edge g g2 e j w h)
-
 pub lost_some : (g g2 : Graph) (e : EffectLists) (f : List KeyedQuotient) (d : List KeyedChanges) (i j : ℕ) → AreEffects g g2 e → j < length e.lost
     → IsLevelOnWay g2 (without_edges g (take j e.lost)) e.came [] f d i → (x y : ℕ) → at (blocks_shown f d i) (pair_at e.lost j).0 ≡ Some x
     → at (blocks_shown f d i) (pair_at e.lost j).1 ≡ Some y → 0 < support_shown f d i x y
 lost_some g g2 e f d i j w h way x y from onto =
     lowered_some g e.lost j x y (blocks_shown f d i) (support_shown f d i) w.lost.once (lost_edges g g2 e w) h way.supports (record { from = from; onto = onto })
 
-first_of : (a b : Bool) → (a && b) ≡ true → a ≡ true
-first_of true b h = refl
-first_of false b h = absurd (true≢false (sym h))
-
-added_edge : (g g2 : Graph) (e : EffectLists) (u v : ℕ) → AreEffects g g2 e → has_pair e.added u v ≡ true → has_edge g2 u v ≡ true
-added_edge g g2 e u v w h = first_of (has_edge g2 u v) _ (sym (w.added.members u v) ∙ h)
-
 -- a node of the second graph has a block, once nodes have come and gone
 pub new_some : (g g2 h : Graph) (e : EffectLists) (f : List KeyedQuotient) (d : List KeyedChanges) (i n : ℕ) → AreEffects g g2 e → AreBases g f → i < length f → IsTrue (is_live g2 n)
     → IsLevelOnWay g2 h e.came e.gone f d i → IsSome (at (blocks_shown f d i) n)
 new_some g g2 h e f d i n w base l live way =
     (moved_partition g g2 e (blocks_at f i) (blocks_shown f d i) (at (labels_shown f d i)) w (base.levels i l).partition way.nodes).live n live
-
-pub added_from : (g g2 : Graph) (e : EffectLists) (j : ℕ) → AreEffects g g2 e → IsGraph g2 → j < length e.added → IsTrue (is_live g2 (pair_at e.added j).0)
-added_from g g2 e j w graph h =
-    graph.from (pair_at e.added j).0 (pair_at e.added j).1 (added_edge g g2 e (pair_at e.added j).0 (pair_at e.added j).1 w (pair_there e.added j h))
-
-pub added_onto : (g g2 : Graph) (e : EffectLists) (j : ℕ) → AreEffects g g2 e → IsGraph g2 → j < length e.added → IsTrue (is_live g2 (pair_at e.added j).1)
-added_onto g g2 e j w graph h =
-    graph.onto (pair_at e.added j).0 (pair_at e.added j).1 (added_edge g g2 e (pair_at e.added j).0 (pair_at e.added j).1 w (pair_there e.added j h))
-
-within_front : (es : List (ℕ × ℕ)) (j u v : ℕ) → has_pair (take j es) u v ≡ true → has_pair es u v ≡ true
-within_front [] j u v h = absurd (none j (sym h))
-  where
-    none : (j : ℕ) → true ≡ has_pair (take j []) u v → ⊥
-    none zero e = true≢false e
-    none (suc j) e = true≢false e
-within_front (x ∷ es) zero u v h = absurd (true≢false (sym h))
-within_front (x ∷ es) (suc j) u v h = elim (cases_Bool (same_pair (u, v) x)) [
-  | inl on ↦ ap (λ b. b || has_pair es u v) on
-  | inr off ↦ ap (λ b. b || has_pair es u v) off ∙ within_front es j u v (sym (ap (λ b. b || has_pair (take j es) u v) off) ∙ h)
-]
-
-or_cases : (a b : Bool) → (a || b) ≡ true → (a ≡ true) ⊎ (b ≡ true)
-or_cases true b h = inl refl
-or_cases false b h = inr h
-
--- the edges so far are edges of the second graph
-within_after : (g g2 : Graph) (e : EffectLists) (j u v : ℕ) → AreEffects g g2 e → has_edge (with_edges (without_edges g e.lost) (take j e.added)) u v ≡ true → has_edge g2 u v ≡ true
-within_after g g2 e j u v w h =
-    elim (or_cases (has_pair (take j e.added) u v) (has_edge (without_edges g e.lost) u v) (sym (edge_there (without_edges g e.lost) (take j e.added) u v) ∙ h)) [
-      | inl added ↦ added_edge g g2 e u v w (within_front e.added j u v added)
-      | inr left ↦ (left_in_both g g2 e u v w left).1
-    ]
 
 pub added_few : (g g2 : Graph) (e : EffectLists) (f : List KeyedQuotient) (d : List KeyedChanges) (i j : ℕ) → AreEffects g g2 e → set.len g2.edges ≤ 2 ^ 30
     → IsLevelOnWay g2 (with_edges (without_edges g e.lost) (take j e.added)) e.came e.gone f d i → (x y : ℕ) → support_shown f d i x y < 2 ^ 31
@@ -416,42 +348,6 @@ below_same came g2 f d d2 (suc i) others w = drafted_same came g2 f d d2 (suc i)
 
 pub same_next : (i : ℕ) (d d1 d2 : List KeyedChanges) → AreSameBut i d d1 → AreSameBut i d1 d2 → AreSameBut i d d2
 same_next i d d1 d2 p q = λ j ne. q j ne ∙ p j ne
-
--- ---- the nodes of a list
-
--- a number of a list stands in it
-pub node_there : (xs : List ℕ) (i : ℕ) → i < length xs → has xs (get_or xs i 0) ≡ true
-node_there [] i h = absurd (omega (arith, h))
-node_there (x ∷ xs) zero h = ap (λ b. b || has xs x) ((Decides-eqb x x).1 refl)
-node_there (x ∷ xs) (suc i) h = ap (λ b. nat_eq (get_or xs i 0) x || b) (node_there xs i (omega (arith, h))) ∙ or-true (nat_eq (get_or xs i 0) x)
-
-came_there : (xs : List ℕ) (e : EffectLists) (i : ℕ) → xs ≡ e.came → i < length xs → IsTrue (has e.came (get_or xs i 0))
-came_there xs e i is h = subst (λ (ys : List ℕ). has ys (get_or xs i 0) ≡ true) is (node_there xs i h)
-
-pub came_live : (g g2 : Graph) (xs : List ℕ) (e : EffectLists) (i : ℕ) → AreEffects g g2 e → xs ≡ e.came → i < length xs → IsTrue (is_live g2 (get_or xs i 0))
-came_live g g2 xs e i w is h = (came_parts g g2 e (get_or xs i 0) w (came_there xs e i is h)).0
-
-pub came_dead : (g g2 : Graph) (xs : List ℕ) (e : EffectLists) (i : ℕ) → AreEffects g g2 e → xs ≡ e.came → i < length xs → is_live g (get_or xs i 0) ≡ false
-came_dead g g2 xs e i w is h = (came_parts g g2 e (get_or xs i 0) w (came_there xs e i is h)).1
-
-pub gone_there : (xs : List ℕ) (e : EffectLists) (i : ℕ) → xs ≡ e.gone → i < length xs → IsTrue (has e.gone (get_or xs i 0))
-gone_there xs e i is h = subst (λ (ys : List ℕ). has ys (get_or xs i 0) ≡ true) is (node_there xs i h)
-
--- numbers of nodes are small
-pub live_small : (g : Graph) (n : ℕ) → IsGraph g → IsTrue (is_live g n) → length g.allocated ≤ 2 ^ 30 → n < 2 ^ 31
-live_small g n graph live few = (let below = (is_shape g graph).below n live in omega (arith, below, few))
-
-pub gone_small : (g g2 : Graph) (xs : List ℕ) (e : EffectLists) (i : ℕ) → AreEffects g g2 e → IsGraph g → xs ≡ e.gone → i < length xs → length g.allocated ≤ 2 ^ 30 → get_or xs i 0 < 2 ^ 31
-gone_small g g2 xs e i w graph is h few = live_small g (get_or xs i 0) graph (gone_parts g g2 e (get_or xs i 0) w (gone_there xs e i is h)).0 few
-
--- no edges are listed as a list of nodes is: the next pair, whatever stands past the end
-pub pair_is : (es fs : List (ℕ × ℕ)) (i : ℕ) (other : ℕ × ℕ) → es ≡ fs → i < length es → get_or es i other ≡ pair_at fs i
-pair_is es fs i other same h = ap (λ (xs : List (ℕ × ℕ)). get_or xs i other) same ∙ any_end fs i other (subst (λ (xs : List (ℕ × ℕ)). i < length xs) same h)
-  where
-    any_end : (xs : List (ℕ × ℕ)) (i : ℕ) (other : ℕ × ℕ) → i < length xs → get_or xs i other ≡ pair_at xs i
-    any_end [] i other h = absurd (omega (arith, h))
-    any_end (x ∷ xs) zero other h = refl
-    any_end (x ∷ xs) (suc i) other h = any_end xs i other (omega (arith, h))
 
 -- ---- all levels
 

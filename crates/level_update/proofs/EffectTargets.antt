@@ -1,5 +1,5 @@
 -- The nodes that are affected by the effects of a change.
-use Rattle.std.proofs.Common.{◌≡◌, ◌⊎◌, ℕ, zero, suc, ◌+◌, ◌*◌, ◌<◌, ◌≤◌, ◌^◌, List, [], ◌∷◌, ◌++◌, length, Some, IsTrue, refl, sym, ◌∙◌, ap, subst, arith, true, false, true≢false, inl, inr, Bool}
+use Rattle.std.proofs.Common.{◌≡◌, ◌⊎◌, ℕ, zero, suc, ◌+◌, ◌*◌, ◌<◌, ◌≤◌, ◌^◌, List, [], ◌∷◌, ◌++◌, length, IsTrue, refl, sym, ◌∙◌, ap, subst, arith, true, false, true≢false, inl, inr, Bool}
 use Rattle.std.specs.FinSet as set
 use Rattle.std.specs.Prelude.{nat_eq, ◌&&◌, not}
 use Rattle.std.proofs.lemmas.Bool.{or_cases, and_parts}
@@ -31,7 +31,7 @@ use Rattle.level_update.specs.FamilyDrafts.{FamilyFits, most_steps}
 use Rattle.level_update.specs.MovedLevels.{AreMoved}
 use Rattle.level_update.specs.LevelEffects.{AreLevelsBefore, AreLevelsDrafted, HasOwnKey, lone_nodes, keeps_keys}
 use Rattle.level_update.proofs.Bases.{next_is, bases}
-use Rattle.level_update.proofs.EffectLevels.{levels_moving}
+use Rattle.level_update.proofs.EffectLevels.{same_some, levels_moving}
 use Rattle.level_update.proofs.MovedDrafts.{HaveMoved, keyed_at}
 
 -- ---- no edge comes or goes
@@ -91,9 +91,6 @@ own_keyed g g2 e f d i n w graph added came (number, own, below, here, key) = re
         },
       );
 }
-  where
-    same_some : (x y : ℕ) → Some x ≡ Some y → x ≡ y
-    same_some x y e = cc
 
 came_moved : (g g2 : Graph) (e : EffectLists) (f : List KeyedQuotient) (d : List KeyedChanges) → AreEffects g g2 e → e.lost ≡ [] → e.added ≡ [] → e.relabelled ≡ []
     → AreLevelsBefore g g2 f → AreLevelsDrafted e.came g2 f d → HaveMoved (has e.came) g g2 f d
@@ -185,12 +182,13 @@ effects_moved g g2 e f d w before moved = record {
   some = before.some;
 }
 
--- The effects, at no more than twice the cost, and what it takes to draft a part of it, are no more than eight times the cost at each
--- level.
+-- The effects, at no more than twice the cost, and what it takes to draft a part of it, are no more than eight times
+-- the cost at each level.
 total_steps : (k part all effects old found new : ℕ) → part ≤ all → effects ≤ 2 * all → found ≤ old + effects → new ≤ found + (6 * k + 4) * part → new ≤ old + 8 * (k + 1) * all
 total_steps k part all effects old found new less few start spent = (let more = mul-le-mul_left (6 * k + 4) less in omega (arith, few, start, spent, more))
 
--- What is spent is within the bound of the change: first to find its effects, and then to move what some of its targets affect.
+-- What is spent is within the bound of the change: first to find its effects, and then to move what some of its targets
+-- affect.
 pub change_steps : (a b : Pending) (listed : List ℕ) (k old found new : ℕ) → a ≡ b → IsGraph (graph_after a) → ((n : ℕ) → has listed n ≡ true → targets a.change a.before n ≡ true)
     → found ≤ old + length a.change + 2 * weight (shape_of a.before) (is_gone a.before (graph_after a)) → new ≤ found + most_draft_steps a (has listed) k
     → new ≤ old + most_steps b.before b.change k

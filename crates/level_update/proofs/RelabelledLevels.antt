@@ -1,5 +1,5 @@
 -- A level on which nodes that get another label are moved, one after the other.
-use Rattle.std.proofs.Common.{◌≡◌, ℕ, ◌+◌, ◌*◌, ◌<◌, ◌≤◌, List, [], ◌∷◌, ◌++◌, length, Option, Some, IsTrue, IsFalse, refl, sym, ◌∙◌, ap, subst, arith, inl, inr, true, false, Bool, cond, get_or, true≢false}
+use Rattle.std.proofs.Common.{◌≡◌, ℕ, ◌+◌, ◌*◌, ◌≤◌, List, [], ◌∷◌, ◌++◌, Some, IsTrue, refl, sym, ◌∙◌, ap, subst, arith, inl, inr, true, false, Bool, cond, true≢false}
 use Rattle.std.specs.Prelude.{nat_eq, ◌&&◌, ◌||◌, not}
 use Rattle.std.specs.List.{IsDistinct, sum_by}
 use Rattle.std.proofs.Math.Bool.{or-true, or-false}
@@ -16,16 +16,16 @@ use Rattle.change_spec.proofs.RoundBounds.{round_most}
 use Rattle.one_spec.specs.EdgeCounts.{AreEdgeCounts}
 use Rattle.one_spec.proofs.Sums.{sum_listed}
 use Rattle.graph_update.specs.PendingChanges.{Pending, graph_after}
-use Rattle.graph_effects.specs.Effects.{EffectLists, AreEffects}
-use Rattle.graph_effects.proofs.EffectLaws.{has_last, relabelled_parts}
+use Rattle.graph_effects.specs.Effects.{EffectLists}
+use Rattle.graph_effects.proofs.EffectLaws.{has_last, put_else}
 use Rattle.affected_nodes.proofs.SearchCosts.{StartsAt, below, within_below, within_live}
 use Rattle.keyed_quotient.specs.KeyedQuotients.{KeyedQuotient}
 use Rattle.keyed_quotient.specs.Changes.{KeyedChanges}
 use Rattle.level_spec.proofs.AffectedWeights.{affected_weight}
 use Rattle.ak_family.specs.LevelDrafts.{blocks_shown, labels_shown, support_shown, AreSameBut}
 use Rattle.level_update.specs.LevelCosts.{place_cost, near_cost}
-use Rattle.level_update.specs.LevelEffects.{own_number, lone_nodes, HasOwnKey, is_unmoved, IsLevelRelabelled, IsLevelDrafted, IsDraftedBelow, IsNodeJoined}
-use Rattle.level_update.proofs.EffectLevels.{own_stays, begin_joined, put_off, own_joined, node_there}
+use Rattle.level_update.specs.LevelEffects.{own_number, lone_nodes, HasOwnKey, IsLevelRelabelled, IsLevelDrafted, IsDraftedBelow, IsNodeJoined}
+use Rattle.level_update.proofs.EffectLevels.{same_some, own_stays, begin_joined, own_joined}
 use Rattle.level_update.proofs.MovedNodes.{partition_put}
 
 -- ---- one more node
@@ -69,14 +69,11 @@ relabelled_next e moved g2 f d d2 i n label number under w others live is own j 
   ];
 }
   where
-    same_some : (x y : ℕ) → Some x ≡ Some y → x ≡ y
-    same_some x y k = cc
-
     no_last : (b : Bool) → (b || true) ≡ false → ⊥
     no_last b h = true≢false (sym (or-true b) ∙ h)
 
     stays : (m : ℕ) → nat_eq m n ≡ false → at (blocks_shown f d2 i) m ≡ at (blocks_shown f d i) m
-    stays = put_off n (Some j.block) (blocks_shown f d i) (blocks_shown f d2 i) j.blocks
+    stays = put_else n (Some j.block) (blocks_shown f d i) (blocks_shown f d2 i) j.blocks
 
 -- ---- all of them
 
@@ -95,10 +92,6 @@ relabelled_done e g2 f d i w = record {
     none : (b : Bool) → (b && not b) ≡ false
     none true = refl
     none false = refl
-
--- a node of the list is one of both graphs
-pub relabelled_live : (g g2 : Graph) (xs : List ℕ) (e : EffectLists) (i : ℕ) → AreEffects g g2 e → xs ≡ e.relabelled → i < length xs → IsTrue (is_live g2 (get_or xs i 0))
-relabelled_live g g2 xs e i w is h = (relabelled_parts g g2 e (get_or xs i 0) w (subst (λ (ys : List ℕ). has ys (get_or xs i 0) ≡ true) is (node_there xs i h))).1
 
 -- ---- what it costs
 

@@ -20,6 +20,7 @@ FamilyFits g f = (i : ℕ) → i < length f → FitsLevel g i (view_of (level_at
 abbrev pub ShownFit : Graph → List KeyedQuotient → List KeyedChanges → Type 0
 ShownFit g f d = (i : ℕ) → i < length f → FitsLevel g i (settled_view (level_at f i).quotient (changes_at d i).drafted)
 
--- how many steps a change may take, where levels up to k are kept: its effects are found, and nodes within k edges of its targets move
+-- how many steps a change may take, where levels up to k are kept: its effects are found, and nodes within k edges of
+-- its targets move
 abbrev pub most_steps : Graph → List Step → ℕ → ℕ
 most_steps g c k = 8 * (k + 1) * near_cost (record { before = g; change = c }) (targets c g) k

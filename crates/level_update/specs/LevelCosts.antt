@@ -14,11 +14,11 @@ place_cost a n = round_cost a.before (graph_after a) n
 abbrev pub near_cost : Pending → (ℕ → Bool) → ℕ → ℕ
 near_cost a target k = cost a.change a.before (within_distance (shape_of (graph_after a)) target k)
 
--- The most steps that the affected nodes take at all levels up to k: as many as the change costs at those within k edges, to find
--- them, and three times as many at each level but the lowest.
+-- The most steps that the affected nodes take at all levels up to k: as many as the change costs at those within k
+-- edges, to find them, and three times as many at each level but the lowest.
 abbrev pub most_move_steps : Pending → (ℕ → Bool) → ℕ → ℕ
 most_move_steps a target k = (3 * k + 1) * near_cost a target k
 
--- With nodes that get another label there are three times as many more at each level.
+-- The nodes that get another label take three times as many more at each level.
 abbrev pub most_draft_steps : Pending → (ℕ → Bool) → ℕ → ℕ
 most_draft_steps a target k = (6 * k + 4) * near_cost a target k

@@ -52,9 +52,9 @@ HasOwnKey f d zero n = ⊤
 HasOwnKey f d (suc i) n =
     (number : ℕ) × (b : ℕ) × (at (blocks_shown f d i) n ≡ Some number) × (at (blocks_shown f d (suc i)) n ≡ Some b) × (key_shown f d (suc i) b ≡ Some (number ∷ []))
 
--- A level on the way to the graph g2: some nodes have come and gone, and supports count the edges of the graph h. Blocks of
--- the base keep their labels and keys, all keys begin as they must, and nodes that have come are in the blocks of their own
--- numbers.
+-- A level on the way to the graph g2: some nodes have come and gone, and supports count the edges of the graph h.
+-- Blocks of the base keep their labels and keys, all keys begin as they must, and nodes that have come are in the
+-- blocks of their own numbers.
 pub record IsLevelOnWay (g2 h : Graph) (came gone : List ℕ) (f : List KeyedQuotient) (d : List KeyedChanges) (i : ℕ) : Type 0 where
   pub over : AreOver f d
   pub begin : KeysBegin f d i
@@ -72,8 +72,9 @@ lone_nodes e = e.came ++ e.relabelled
 abbrev pub is_unmoved : EffectLists → List ℕ → ℕ → Bool
 is_unmoved e moved n = has e.relabelled n && not (has moved n)
 
--- The level shows the graph g2, but blocks may have other labels than nodes that get another one and haven't been moved. Nodes that
--- have come or been moved are in the blocks of their own numbers, and all others in the blocks in which they were.
+-- The level shows the graph g2, but a node that gets another label and hasn't been moved may be in a block that has its
+-- old one. Nodes that have come or been moved are in the blocks of their own numbers, and all others in the blocks in
+-- which they were.
 pub record IsLevelRelabelled (e : EffectLists) (moved : List ℕ) (g2 : Graph) (f : List KeyedQuotient) (d : List KeyedChanges) (i : ℕ) : Type 0 where
   pub over : AreOver f d
   pub partition : IsPartition (shape_of g2) (blocks_shown f d i)
@@ -85,28 +86,28 @@ pub record IsLevelRelabelled (e : EffectLists) (moved : List ℕ) (g2 : Graph) (
   pub own : (n : ℕ) → IsTrue (has e.came n || has moved n) → HasOwnKey f d i n
   pub far : (n : ℕ) → IsNode (shape_of g2) n → IsFalse (has e.came n || has moved n) → at (blocks_shown f d i) n ≡ at (blocks_at f i) n
 
--- The level shows the graph g2, with these nodes in the blocks of their own numbers, and all others in the blocks in which they
--- were.
-pub record IsLevelDrafted (came : List ℕ) (g2 : Graph) (f : List KeyedQuotient) (d : List KeyedChanges) (i : ℕ) : Type 0 where
+-- The level shows the graph g2, with these nodes in the blocks of their own numbers, and all others in the blocks in
+-- which they were.
+pub record IsLevelDrafted (lone : List ℕ) (g2 : Graph) (f : List KeyedQuotient) (d : List KeyedChanges) (i : ℕ) : Type 0 where
   pub level : IsLevelOf g2 (blocks_shown f d i) (labels_shown f d i) (support_shown f d i)
   pub begin : KeysBegin f d i
   pub stay : KeysStay (key_at (level_at f i).keys) (key_shown f d i)
   pub labels : LabelsKept (level_at f i).quotient.blocks.labels (labels_shown f d i)
-  pub own : (n : ℕ) → IsTrue (has came n) → HasOwnKey f d i n
-  pub far : (n : ℕ) → IsNode (shape_of g2) n → IsFalse (has came n) → at (blocks_shown f d i) n ≡ at (blocks_at f i) n
+  pub own : (n : ℕ) → IsTrue (has lone n) → HasOwnKey f d i n
+  pub far : (n : ℕ) → IsNode (shape_of g2) n → IsFalse (has lone n) → at (blocks_shown f d i) n ≡ at (blocks_at f i) n
 
 -- the level below, where there is one, is drafted
 abbrev pub IsDraftedBelow : List ℕ → Graph → List KeyedQuotient → List KeyedChanges → ℕ → Type 0
-IsDraftedBelow came g2 f d zero = ⊤
-IsDraftedBelow came g2 f d (suc i) = IsLevelDrafted came g2 f d i
+IsDraftedBelow lone g2 f d zero = ⊤
+IsDraftedBelow lone g2 f d (suc i) = IsLevelDrafted lone g2 f d i
 
 -- each level is drafted
-pub record AreLevelsDrafted (came : List ℕ) (g2 : Graph) (f : List KeyedQuotient) (d : List KeyedChanges) : Type 0 where
+pub record AreLevelsDrafted (lone : List ℕ) (g2 : Graph) (f : List KeyedQuotient) (d : List KeyedChanges) : Type 0 where
   pub over : AreOver f d
-  pub each : (i : ℕ) → i < length f → IsLevelDrafted came g2 f d i
+  pub each : (i : ℕ) → i < length f → IsLevelDrafted lone g2 f d i
 
--- On the way, once the edges that go have been taken out of the supports; once the nodes that go have no blocks; and once the
--- edges that come have been added to the supports.
+-- On the way, once the edges that go have been taken out of the supports; once the nodes that go have no blocks; and
+-- once the edges that come have been added to the supports.
 abbrev pub HasEdgesLowered : Pending → EffectLists → List KeyedQuotient → List KeyedChanges → ℕ → Type 0
 HasEdgesLowered a e f d i = IsLevelOnWay (graph_after a) (without_edges a.before e.lost) e.came [] f d i
 
@@ -116,8 +117,8 @@ HasNodesLeft a e f d i = IsLevelOnWay (graph_after a) (without_edges a.before e.
 abbrev pub HasEdgesRaised : Pending → EffectLists → List KeyedQuotient → List KeyedChanges → ℕ → Type 0
 HasEdgesRaised a e f d i = IsLevelOnWay (graph_after a) (with_edges (without_edges a.before e.lost) e.added) e.came e.gone f d i
 
--- Whether nodes keep the keys with which the effects are drafted: no edge comes or goes and no node gets another label, or the graph
--- is altered at none of its nodes.
+-- Whether nodes keep the keys with which the effects are drafted: no edge comes or goes and no node gets another label,
+-- or the graph is altered at none of its nodes.
 abbrev pub keeps_keys : EffectLists → Bool
 keeps_keys e = nat_eq (length e.targets) 0 || ((nat_eq (length e.lost) 0 && nat_eq (length e.added) 0) && nat_eq (length e.relabelled) 0)
 

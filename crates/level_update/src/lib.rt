@@ -1,4 +1,5 @@
-//! What a change of a graph makes of indexes by levels, as a draft: the affected nodes move between the blocks of each level.
+//! What a change of a graph makes of indexes by levels, as a draft: the affected nodes move between the blocks of each
+//! level.
 #![tactic(auto)]
 
 mod buffers;

@@ -81,7 +81,6 @@ fn fill<L: Ledger>(
     ensures free { (u v : ℕ) → change.now ≡ link u v ∷ [] → IsSupported (view_of base.old) u v → steps.new ≡ steps.old }
 {
     draft_change(alloc, base, draft, parentless, graph, change, steps)?;
-    parentless.note_touched(alloc, base, draft)?;
     draft.reserve(base)?;
     Ok(())
 }

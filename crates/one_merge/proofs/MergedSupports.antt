@@ -26,10 +26,10 @@ use Rattle.one_merge.proofs.Columns.{flipped, Which, goes, stays, else_, which, 
 row_gone : (a b : ℕ) (s : ℕ → ℕ → ℕ) (y : ℕ) → with_row a b s b y ≡ 0
 row_gone a b s y = column_gone a b (flipped s) y
 
-row_here : (a b : ℕ) (s : ℕ → ℕ → ℕ) (y : ℕ) → a ≢ b → with_row a b s a y ≡ s a y + s b y
+pub row_here : (a b : ℕ) (s : ℕ → ℕ → ℕ) (y : ℕ) → a ≢ b → with_row a b s a y ≡ s a y + s b y
 row_here a b s y ne = column_here a b (flipped s) y ne
 
-row_there : (a b : ℕ) (s : ℕ → ℕ → ℕ) (x y : ℕ) → x ≢ a → x ≢ b → with_row a b s x y ≡ s x y
+pub row_there : (a b : ℕ) (s : ℕ → ℕ → ℕ) (x y : ℕ) → x ≢ a → x ≢ b → with_row a b s x y ≡ s x y
 row_there a b s x y na nb = column_there a b (flipped s) y x na nb
 
 abbrev merged_is : (a b : ℕ) (p : List (Option ℕ)) → IsMerged a b p (merged a b p)

@@ -1,33 +1,47 @@
 -- Blocks to which no other block has support.
 use Rattle.std.proofs.Common.{◌≡◌, ◌≢◌, ℕ, zero, suc, ◌+◌, List, [], ◌∷◌, Option, Some, None, IsTrue, is_some, refl, sym, ◌∙◌, ap, subst, arith, inl, inr, true, false, Bool, count_by, true≢false}
-use Rattle.std.specs.Prelude.{nat_eq, nat_lt, cond, IfNone, IfOk, Result, Ok, Err}
-use Rattle.std.specs.List.{list_all}
-use Rattle.std.proofs.lemmas.Bool.{cases_Bool, both_ways, or_left, or_right, and_from}
+use Rattle.std.specs.Prelude.{nat_eq, nat_lt, cond, slice_index_or, IfNone, IfOk, Result, Ok, Err}
+use Rattle.std.specs.List.{list_all, position, swap_remove}
+use Rattle.std.proofs.lemmas.Bool.{cases_Bool, both_ways, or_cases, or_left, or_right, and_from}
 use Rattle.std.proofs.lemmas.Bool.Decides.{Decides-eqb, Decides-ltb, eqb_tells}
+use Rattle.std.proofs.lemmas.List.Quantifiers.{position-Some}
+use Rattle.std.proofs.lemmas.List.Sorted.{IsPermutation-swap_remove, list_any-IsPermutation}
 use Rattle.graph_spec.specs.Members.{has, at, is_this, Lists}
 use Rattle.graph_spec.specs.Shapes.{Shape}
 use Rattle.bisim_spec.proofs.Together.{together_at, merged_cases}
 use Rattle.bisim_spec.proofs.MergeableBlocks.{mergeable_blocks, merges_from}
 use Rattle.bisim_spec.specs.IndexGraphs.{support_at}
-use Rattle.one_spec.specs.Merges.{IsMergeablePair, IsChildBlock}
-use Rattle.one_spec.specs.Viewed.{IsViewed}
+use Rattle.one_spec.specs.Merges.{IsMergeablePair, IsMerged, IsChildBlock}
 use Rattle.one_spec.proofs.MergeCandidates.{shared_parent_alone}
+use Rattle.one_spec.proofs.MergedPairs.{unmerged, merged_gone}
 use Rattle.quotient.specs.Quotients.{Quotient}
 use Rattle.quotient_draft.specs.Drafts.{Drafted, has_member, inhabited_from, settled_view, shown_blocks, shown_labels, shown_support}
-use Rattle.one_merge.specs.MergeTests.{AreNotMergeable}
-use Rattle.one_merge.specs.ParentlessBlocks.{ParentlessLists, IsNoted, IsParentless, CoversParentless, CoversBase, CoversShown}
-use Rattle.one_merge.proofs.Counted.{member_counted}
+use Rattle.one_merge.specs.MergeTests.{shown_adjacent}
+use Rattle.one_merge.specs.Merged.{merged_support, with_column}
+use Rattle.one_merge.specs.Shown.{ShowsStablePartition, AreShownNotMergeable}
+use Rattle.one_merge.specs.ParentlessBlocks.{ParentlessLists, IsNoted, IsParentless, CoversParentless, CoversBase, CoversShown, NotesParentless}
+use Rattle.one_merge.proofs.Columns.{Which, goes, stays, else_, which, column_there}
+use Rattle.one_merge.proofs.MergedSupports.{row_here, row_there}
+use Rattle.one_merge.proofs.Counted.{member_counted, member_from, member_get}
 
 zero_by : (n : ℕ) → nat_lt 0 n ≡ false → n ≡ 0
 zero_by n h = grind (arith, h)
 
--- The tables of a base and what a draft shows of them, and a list: the children of a are in it where a is one of them,
--- the blocks that are noted for a label, and all blocks whose labels or parents aren't those of the base.
-pub record AreCandidates (labels base_labels : ℕ → Option ℕ) (support base_support : ℕ → ℕ → ℕ) (parentless : ParentlessLists) (a label : ℕ) (list : List ℕ) : Type 0 where
+-- the label of a block with members stays when blocks without members go
+label_stays : (block : List (Option ℕ)) (n : ℕ) (labels : List (Option ℕ)) (b l : ℕ) → has_member block (n + b) ≡ true → at labels b ≡ Some l → at (inhabited_from block n labels) b ≡ Some l
+label_stays block n [] b l on h = absurd (cc)
+label_stays block n (x ∷ xs) zero l on h = ap (λ t. cond t x None) (subst (λ m. has_member block m ≡ true) (let e : n + 0 ≡ n = omega arith in e) on) ∙ h
+label_stays block n (x ∷ xs) (suc b) l on h = label_stays block (n + 1) xs b l (subst (λ m. has_member block m ≡ true) (let e : n + suc b ≡ (n + 1) + b = omega arith in e) on) h
+
+settled_label : (q : Quotient) (d : Drafted) (n b l : ℕ) → at (shown_blocks q d) n ≡ Some b → at (shown_labels q d) b ≡ Some l → at (settled_view q d).labels b ≡ Some l
+settled_label q d n b l there h =
+    label_stays (shown_blocks q d) 0 (shown_labels q d) b l
+    (subst (λ m. has_member (shown_blocks q d) m ≡ true) (let e : b ≡ 0 + b = omega arith in e) (member_from (shown_blocks q d) b n there)) h
+
+-- The children of a are in the list where a is one of them, and so are the blocks that are noted for a label.
+pub record AreCandidates (support : ℕ → ℕ → ℕ) (parentless : ParentlessLists) (a label : ℕ) (list : List ℕ) : Type 0 where
   pub children : IsTrue (nat_lt 0 (support a a)) → (b : ℕ) → IsTrue (nat_lt 0 (support a b)) → IsTrue (has list b)
   pub noted : (b : ℕ) → IsNoted parentless label b → IsTrue (has list b)
-  pub labels_are : (b : ℕ) → has list b ≡ false → labels b ≡ base_labels b
-  pub supports_are : (x b : ℕ) → has list b ≡ false → support x b ≡ base_support x b
 
 -- where a block is a parent of the block with which it can be merged, it has a parent itself
 mergeable_back : (s : Shape) (p : List (Option ℕ)) (a b : ℕ) → IsMergeablePair s p a b → IsChildBlock s p a b → (z : ℕ) × IsChildBlock s p z a
@@ -41,45 +55,49 @@ mergeable_back s p a b can k =
     ]
 
 -- a block that is in no such list can't be merged with a block that has no other parent than itself
-pub unmergeable_lone : (p : List (Option ℕ)) (labels base_labels : ℕ → Option ℕ) (support base_support : ℕ → ℕ → ℕ) (parentless : ParentlessLists) (a label : ℕ) (list : List ℕ)
-    → ((x : ℕ) → IsTrue (nat_lt 0 (support x a)) → x ≡ a) → labels a ≡ Some label → CoversParentless base_labels base_support parentless
-    → AreCandidates labels base_labels support base_support parentless a label list
-    → ((b : ℕ) → IsTrue (has list b) → AreNotMergeable p labels (λ x y. nat_lt 0 (support x y)) a b) → (b : ℕ) → AreNotMergeable p labels (λ x y. nat_lt 0 (support x y)) a b
-unmergeable_lone p labels base_labels support base_support parentless a label list lone own covers are among b s v can = elim (cases_Bool (has list b)) [
+pub unmergeable_lone : (q : Quotient) (d : Drafted) (parentless : ParentlessLists) (a label : ℕ) (list : List ℕ)
+    → ((x : ℕ) → IsTrue (shown_adjacent q d x a) → x ≡ a) → at (shown_labels q d) a ≡ Some label → CoversShown q d parentless
+    → AreCandidates (shown_support q d) parentless a label list → ((b : ℕ) → IsTrue (has list b) → AreShownNotMergeable q d a b) → (b : ℕ) → AreShownNotMergeable q d a b
+unmergeable_lone q d parentless a label list lone own covers are among b s v can = elim (cases_Bool (has list b)) [
   | inl there ↦ among b there s v can
   | inr off ↦ (
-      let m = (mergeable_blocks s p a b can.first.0 can.second.0 v.shape v.stable can.first.1 can.second.1).0 can.can in
+      let m = (mergeable_blocks s (shown_blocks q d) a b can.first.0 can.second.0 v.shape v.stable can.first.1 can.second.1).0 can.can in
       let same = (v.labelled.same can.first.0 can.second.0 a b can.first.1 can.second.1).1 (m.label can.first.0 can.second.0 can.first.1 can.second.1) in
-      both_ways (has list b) off (are.noted b (covers.each b label (sym (are.labels_are b off) ∙ sym same ∙ own) (λ x ne. sym (are.supports_are x b off) ∙ alone s v can off x ne))))
+      both_ways (has list b) off (are.noted b (covers.each b label (settled_label q d can.second.0 b label can.second.1 (sym same ∙ own)) (λ x ne. alone s v can off x ne))))
 ]
   where
-    alone : (s : Shape) → IsViewed s p labels (λ x y. nat_lt 0 (support x y)) → IsMergeablePair s p a b → has list b ≡ false → (x : ℕ) → x ≢ b → support x b ≡ 0
-    alone s v can off x ne = elim (cases_Bool (nat_lt 0 (support x b))) [
-      | inr none ↦ zero_by (support x b) none
-      | inl some ↦ absurd (elim (shared_parent_alone s p a b x can (λ z k. lone z (v.into z a k)) (v.from x b some)) [
+    alone : (s : Shape) → ShowsStablePartition s q d → IsMergeablePair s (shown_blocks q d) a b → has list b ≡ false → (x : ℕ) → x ≢ b → shown_support q d x b ≡ 0
+    alone s v can off x ne = elim (cases_Bool (shown_adjacent q d x b)) [
+      | inr none ↦ zero_by (shown_support q d x b) none
+      | inl some ↦ absurd (elim (shared_parent_alone s (shown_blocks q d) a b x can (λ z k. lone z (v.into z a k)) (v.from x b some)) [
         | inl e ↦ (
-            let adjacent : IsTrue (nat_lt 0 (support a b)) = ap (λ z. nat_lt 0 (support z b)) (sym e) ∙ some in
-            let z = mergeable_back s p a b can (v.from a b adjacent) in
-            let own : IsTrue (nat_lt 0 (support a a)) = ap (λ c. nat_lt 0 (support c a)) (sym (lone z.0 (v.into z.0 a z.1))) ∙ v.into z.0 a z.1 in
+            let adjacent : IsTrue (shown_adjacent q d a b) = ap (λ z. shown_adjacent q d z b) (sym e) ∙ some in
+            let z = mergeable_back s (shown_blocks q d) a b can (v.from a b adjacent) in
+            let own : IsTrue (shown_adjacent q d a a) = ap (λ c. shown_adjacent q d c a) (sym (lone z.0 (v.into z.0 a z.1))) ∙ v.into z.0 a z.1 in
             both_ways (has list b) off (are.children own b adjacent))
         | inr e ↦ ne e
       ])
     ]
 
-pub none_mergeable_lone : {E : Type 0} (r : Result (Option ℕ) E) (p : List (Option ℕ)) (labels base_labels : ℕ → Option ℕ) (support base_support : ℕ → ℕ → ℕ) (parentless : ParentlessLists) (a label : ℕ)
-    (list : List ℕ) → ((x : ℕ) → IsTrue (nat_lt 0 (support x a)) → x ≡ a) → labels a ≡ Some label → CoversParentless base_labels base_support parentless
-    → AreCandidates labels base_labels support base_support parentless a label list
-    → IfOk r (λ o. IfNone o ((b : ℕ) → IsTrue (has list b) → AreNotMergeable p labels (λ x y. nat_lt 0 (support x y)) a b))
-    → IfOk r (λ o. IfNone o ((b : ℕ) → AreNotMergeable p labels (λ x y. nat_lt 0 (support x y)) a b))
-none_mergeable_lone (Ok None) p labels base_labels support base_support parentless a label list lone own covers are among =
-    unmergeable_lone p labels base_labels support base_support parentless a label list lone own covers are among
-none_mergeable_lone (Ok (Some c)) p labels base_labels support base_support parentless a label list lone own covers are among = among
-none_mergeable_lone (Err e) p labels base_labels support base_support parentless a label list lone own covers are among = among
+pub none_mergeable_lone : {E : Type 0} (r : Result (Option ℕ) E) (q : Quotient) (d : Drafted) (parentless : ParentlessLists) (a label : ℕ) (list : List ℕ)
+    → ((x : ℕ) → IsTrue (shown_adjacent q d x a) → x ≡ a) → at (shown_labels q d) a ≡ Some label → CoversShown q d parentless
+    → AreCandidates (shown_support q d) parentless a label list
+    → IfOk r (λ o. IfNone o ((b : ℕ) → IsTrue (has list b) → AreShownNotMergeable q d a b)) → IfOk r (λ o. IfNone o ((b : ℕ) → AreShownNotMergeable q d a b))
+none_mergeable_lone (Ok None) q d parentless a label list lone own covers are among = unmergeable_lone q d parentless a label list lone own covers are among
+none_mergeable_lone (Ok (Some c)) q d parentless a label list lone own covers are among = among
+none_mergeable_lone (Err e) q d parentless a label list lone own covers are among = among
 
 -- what is noted stays covered
 pub covers_kept : (labels : ℕ → Option ℕ) (support : ℕ → ℕ → ℕ) (parentless parentless2 : ParentlessLists) → ((l c : ℕ) → IsNoted parentless l c → IsNoted parentless2 l c) → CoversParentless labels support parentless
     → CoversParentless labels support parentless2
 covers_kept labels support parentless parentless2 kept covers = record { each = λ b l h k. kept l b (covers.each b l h k) }
+
+-- a number that is no block of the base needn't be noted
+pub covers_but : (labels : ℕ → Option ℕ) (support : ℕ → ℕ → ℕ) (parentless parentless2 : ParentlessLists) (b : ℕ) → is_some (labels b) ≡ false
+    → ((l c : ℕ) → c ≢ b → IsNoted parentless l c → IsNoted parentless2 l c) → CoversParentless labels support parentless → CoversParentless labels support parentless2
+covers_but labels support parentless parentless2 b none kept covers = record {
+  each = λ c l h k. kept l c (λ e. true≢false (sym (ap (λ x. is_some (labels x)) (sym e) ∙ ap is_some h) ∙ none)) (covers.each c l h k);
+}
 
 -- a label that is left when blocks without members go was there before
 pub labels_kept : (block : List (Option ℕ)) (n : ℕ) (labels : List (Option ℕ)) (b l : ℕ) → at (inhabited_from block n labels) b ≡ Some l → at labels b ≡ Some l
@@ -146,3 +164,47 @@ all_own support b xs parents parentless_block = all_from xs (λ a h. elim (eqb_t
     all_from (y ∷ ys) h =
         and_from (nat_eq y b) (list_all (λ a. nat_eq a b) ys) (h y (or_left (nat_eq y y) (has ys y) ((Decides-eqb y y).1 refl)))
         (all_from ys (λ a k. h a (or_right (nat_eq a y) (has ys a) k)))
+
+-- a block that is neither of two which are merged, and to which no other has support afterwards, had no other parent before
+parentless_before : (a b : ℕ) (s s2 : ℕ → ℕ → ℕ) (c : ℕ) → a ≢ b → c ≢ a → c ≢ b → ((x y : ℕ) → s2 x y ≡ merged_support a b s x y) → IsParentless s2 c → IsParentless s c
+parentless_before a b s s2 c ne na nb is alone x nx = by (which a b x)
+  where
+    both_zero : s a c + s b c ≡ 0
+    both_zero =
+        let merged = is a c ∙ row_here a b (with_column a b s) c ne in
+        let zero = alone a (λ e. na (sym e)) in
+        let own = column_there a b s a c na nb in
+        let other = column_there a b s b c na nb in
+        omega (arith, merged, zero, own, other)
+
+    by : Which a b x → s x c ≡ 0
+    by (goes e) = ap (λ z. s z c) e ∙ (let z = both_zero in omega (arith, z))
+    by (stays e) = ap (λ z. s z c) e ∙ (let z = both_zero in omega (arith, z))
+    by (else_ xa xb) = sym (is x c ∙ row_there a b (with_column a b s) x c xa xb ∙ column_there a b s x c na nb) ∙ alone x nx
+
+-- Where two blocks are merged, the one that stays alone may have become parentless.
+pub covers_merged : (q : Quotient) (d d2 : Drafted) (parentless parentless2 : ParentlessLists) (a b : ℕ) → a ≢ b → shown_labels q d2 ≡ shown_labels q d
+    → IsMerged a b (shown_blocks q d) (shown_blocks q d2) → ((x y : ℕ) → shown_support q d2 x y ≡ merged_support a b (shown_support q d) x y) → CoversShown q d parentless
+    → ((l c : ℕ) → c ≢ b → IsNoted parentless l c → IsNoted parentless2 l c) → NotesParentless (at (settled_view q d2).labels) (shown_support q d2) parentless2 a → CoversShown q d2 parentless2
+covers_merged q d d2 parentless parentless2 a b ne same m is covers kept noted = record {
+  each = λ c l h alone. elim (eqb_tells c a) [
+    | inl t ↦ subst (IsNoted parentless2 l) (sym t.1) (noted l (subst (λ z. at (settled_view q d2).labels z ≡ Some l) t.1 h) (subst (IsParentless (shown_support q d2)) t.1 alone))
+    | inr f ↦ (
+        let n = member_get (shown_blocks q d2) c (subst (λ z. has_member (shown_blocks q d2) z ≡ true) (let e : 0 + c ≡ c = omega arith in e) (label_inhabited (shown_blocks q d2) 0 (shown_labels q d2) c l h)) in
+        let off : c ≢ b = λ e. merged_gone a b (shown_blocks q d) (shown_blocks q d2) n.0 m ne (n.1 ∙ ap Some e) in
+        let label = ap (λ ls. at ls c) (sym same) ∙ labels_kept (shown_blocks q d2) 0 (shown_labels q d2) c l h in
+        kept l c off (covers.each c l (settled_label q d n.0 c l (unmerged a b (shown_blocks q d) (shown_blocks q d2) c n.0 m f.1 n.1) label)
+        (parentless_before a b (shown_support q d) (shown_support q d2) c ne f.1 off is alone)))
+  ];
+}
+
+-- the others are left where a number is taken out of a list
+pub others_left : (xs ys : List ℕ) (b i r : ℕ) → position (nat_eq b) xs ≡ Some i → r ≡ slice_index_or xs i r → ys ≡ swap_remove xs i r → (c : ℕ) → c ≢ b → IsTrue (has xs c) → IsTrue (has ys c)
+others_left xs ys b i r at is removed c ne there =
+    let p = position-Some (nat_eq b) xs i r at in
+    let same : b ≡ r = (Decides-eqb b (slice_index_or xs i r)).0 p.1 ∙ sym is in
+    let moved = list_any-IsPermutation (nat_eq c) xs (r ∷ swap_remove xs i r) (IsPermutation-swap_remove xs i r p.0 is) in
+    elim (or_cases (nat_eq c r) (has (swap_remove xs i r) c) (sym moved ∙ there)) [
+      | inl own ↦ absurd (ne ((Decides-eqb c r).0 own ∙ sym same))
+      | inr left ↦ ap (λ zs. has zs c) removed ∙ left
+    ]

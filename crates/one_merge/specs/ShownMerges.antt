@@ -1,13 +1,12 @@
 -- Merging pairs of blocks as a draft shows them.
-use Rattle.std.specs.Prelude.{ℕ, Bool, List, Option, IsTrue, length, ◌≡◌, ◌⊎◌, false}
+use Rattle.std.specs.Prelude.{ℕ, Bool, List, Option, IsTrue, length, ◌≡◌, ◌⊎◌}
 use Rattle.graph_spec.specs.Members.{has}
 use Rattle.graph_spec.specs.Shapes.{Shape}
 use Rattle.bisim_spec.specs.Below.{count_below}
-use Rattle.bisim_spec.specs.IndexGraphs.{support_at}
 use Rattle.one_spec.specs.Merges.{Merges, AreMergeCandidates}
 use Rattle.one_spec.specs.Viewed.{IsViewed, IsMergedToEnd}
 use Rattle.quotient.specs.Quotients.{Quotient}
-use Rattle.quotient_draft.specs.Drafts.{Drafted, shown_labels, shown_blocks, shown_support, has_member}
+use Rattle.quotient_draft.specs.Drafts.{Drafted, shown_labels, shown_blocks, has_member}
 pub use Rattle.one_merge.specs.Shown.{ShowsStablePartition, ShowsSupportsOfGraph, AreShownMergeable, AreShownNotMergeable, StayEdgeCounts, LabelsStayRight}
 use Rattle.one_merge.specs.MergeTests.{shown_adjacent}
 
@@ -41,10 +40,6 @@ HasNoOther q d blocks a = (x : ℕ) → IsTrue (has blocks x) → IsTrue (shown_
 -- where the block has support to itself, all blocks to which it has support are listed
 abbrev pub ListsOwnChildren : Quotient → Drafted → ℕ → List ℕ → Type 0
 ListsOwnChildren q d a list = IsTrue (shown_adjacent q d a a) → (b : ℕ) → IsTrue (shown_adjacent q d a b) → IsTrue (has list b)
-
--- to a block that isn't listed each block has the support of the base
-abbrev pub HasBaseSupports : Quotient → Drafted → List ℕ → Type 0
-HasBaseSupports q d list = (x b : ℕ) → has list b ≡ false → shown_support q d x b ≡ support_at q.supports x b
 
 -- how many blocks have members as shown
 abbrev pub inhabited : Quotient → Drafted → ℕ

@@ -5,8 +5,8 @@ ghost use Rattle.graph_spec.specs.Members.{at, has};
 ghost use Rattle.quotient_draft.specs.Drafts.{shown_labels, shown_blocks, shown_support};
 ghost use Rattle.quotient_draft.specs.Basis.{IsOver};
 ghost use Rattle.one_merge.specs.MergeTests.{shown_adjacent};
-ghost use Rattle.one_merge.specs.ShownMerges.{ShowsSupportsOfGraph, AreShownMergeable, AreShownNotMergeable, HasNoOther, ListsOwnChildren, HasBaseSupports};
-ghost use Rattle.one_merge.specs.ParentlessBlocks.{IsNoted, CoversBase};
+ghost use Rattle.one_merge.specs.ShownMerges.{ShowsSupportsOfGraph, AreShownMergeable, AreShownNotMergeable, HasNoOther, ListsOwnChildren};
+ghost use Rattle.one_merge.specs.ParentlessBlocks.{IsNoted, CoversShown};
 
 use crate::members::{children_count, has_members};
 use crate::mergeable_pair::can_merge;
@@ -232,7 +232,7 @@ fn fill_own_children(
 }
 
 // Lists the blocks that may be merged with a block that has no other parent than itself: its children where it is one of them,
-// the blocks noted for its label, and the blocks that the draft touches.
+// and the blocks noted for its label.
 fn fill_candidates(
     base: &Summary,
     draft: &Draft,
@@ -243,12 +243,9 @@ fn fill_candidates(
 ) -> Result<(), Memory>
     ensures children { OnOk result (ListsOwnChildren base.now draft.now a list.new.items) }
     ensures noted { OnOk result ((b : ℕ) → IsNoted parentless.now label b → IsTrue (has list.new.items b)) }
-    ensures labels { OnOk result ((b : ℕ) → has list.new.items b ≡ false → at (shown_labels base.now draft.now) b ≡ at base.now.blocks.labels b) }
-    ensures supports { OnOk result (HasBaseSupports base.now draft.now list.new.items) }
 {
     fill_own_children(base, draft, a, list)?;
     parentless.add_to(label, list)?;
-    draft.add_touched(list)?;
     Ok(())
 }
 
@@ -263,7 +260,7 @@ fn find_mergeable_lone(
 ) -> Result<Option<u32>, Memory>
     requires over { IsOver base.now.blocks.block_of base.now.blocks.labels draft.now }
     requires graph { ShowsSupportsOfGraph base.now draft.now }
-    requires covers { CoversBase base.now parentless.now }
+    requires covers { CoversShown base.now draft.now parentless.now }
     requires members { (n : ℕ) × (at (shown_blocks base.now draft.now) n ≡ Some a) }
     requires lone { (x : ℕ) → IsTrue (shown_adjacent base.now draft.now x a) → x ≡ a }
     ensures some { IfOk result (λ found. IfSome found (AreShownMergeable base.now draft.now a)) }
@@ -307,7 +304,7 @@ pub(crate) fn find_mergeable(
 ) -> Result<Option<u32>, Memory>
     requires over { IsOver base.now.blocks.block_of base.now.blocks.labels draft.now }
     requires graph { ShowsSupportsOfGraph base.now draft.now }
-    requires covers { CoversBase base.now parentless.now }
+    requires covers { CoversShown base.now draft.now parentless.now }
     ensures some { IfOk result (λ found. IfSome found (AreShownMergeable base.now draft.now a)) }
     ensures none { IfOk result (λ found. IfNone found ((b : ℕ) → AreShownNotMergeable base.now draft.now a b)) }
 {

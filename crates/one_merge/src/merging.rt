@@ -3,7 +3,7 @@ ghost use Rattle.std.specs.Prelude.{ℕ, IsTrue, IfSome, IfNone, IfOk, OnOk};
 ghost use Rattle.graph_spec.specs.Members.{has};
 ghost use Rattle.quotient_draft.specs.Basis.{IsOver};
 ghost use Rattle.one_merge.specs.ShownMerges.{ShowsSupportsOfGraph, AreShownMergeable, StayMergeCandidates, NoTwoCanMerge, MergesToEnd, StayEdgeCounts, LabelsStayRight};
-ghost use Rattle.one_merge.specs.ParentlessBlocks.{CoversBase};
+ghost use Rattle.one_merge.specs.ParentlessBlocks.{CoversBase, CoversShown};
 
 use crate::finding::{Buffers, find_mergeable};
 use crate::members::larger_first;
@@ -25,7 +25,7 @@ fn next_pair(
 ) -> Result<Option<(u32, u32)>, Memory>
     requires over { IsOver base.now.blocks.block_of base.now.blocks.labels draft.now }
     requires graph { ShowsSupportsOfGraph base.now draft.now }
-    requires covers { CoversBase base.now parentless.now }
+    requires covers { CoversShown base.now draft.now parentless.now }
     ensures some { IfOk result (λ pair. IfSome pair (λ r. AreShownMergeable base.now draft.now r.0 r.1)) }
     ensures rest { IfOk result (λ pair. IfSome pair (λ r. StayMergeCandidates base.now draft.now merge_candidates.old r merge_candidates.new)) }
     ensures none { IfOk result (λ pair. IfNone pair (NoTwoCanMerge base.now draft.now merge_candidates.old)) }
@@ -59,13 +59,16 @@ fn push_candidates(
 fn merge_pairs(
     base: &Summary,
     draft: &mut Draft,
-    parentless: &ParentlessBlocks,
+    parentless: &mut ParentlessBlocks,
     merge_candidates: &mut MergeCandidates,
     buffers: &mut Buffers,
 ) -> Result<(), Memory>
     requires over { IsOver base.now.blocks.block_of base.now.blocks.labels draft.old }
     requires graph { ShowsSupportsOfGraph base.now draft.old }
-    requires covers { CoversBase base.now parentless.now }
+    requires covers { CoversBase base.now parentless.old }
+    requires shown { CoversShown base.now draft.old parentless.old }
+    ensures covers { CoversBase base.now parentless.new }
+    ensures shown { OnOk result (CoversShown base.now draft.new parentless.new) }
     ensures over { OnOk result (IsOver base.now.blocks.block_of base.now.blocks.labels draft.new) }
     ensures merged { OnOk result (MergesToEnd base.now draft.old draft.new merge_candidates.old) }
     ensures supports { OnOk result (StayEdgeCounts base.now draft.old draft.new) }
@@ -80,40 +83,44 @@ fn merge_pairs(
     )? {
         draft.fill_children(base, b, &mut buffers.children)?;
         merge_pair(base, draft, a, b, &mut buffers.others)?;
+        parentless.note_merged(base, draft, a, b)?;
         push_candidates(a, &buffers.children, merge_candidates)?;
     }
     Ok(())
 }
 
 /// Merges blocks as shown until no two can be merged, where of any two that can be, one is among the merge candidates.
-/// `parentless` lists each parentless block of the base, and maybe others. It skips numbers of no block, and blocks
-/// without members. The supports must be those of a graph with at most 2^30 edges, and blocks with members have labels.
-/// Where memory runs out, the draft may hold a part of this.
+/// `parentless` lists each parentless block of the base, and maybe others; those of the settled draft come to it. It skips
+/// numbers of no block, and blocks without members. The supports must be those of a graph with at most 2^30 edges, and
+/// blocks with members have labels. Where memory runs out, the draft may hold a part of this.
 ///
 /// Of two blocks that are merged the one with fewer members and children is moved, and each block next to it is written
 /// once. A candidate is compared with another parent of it and that parent's children: a parent with few children is
 /// taken, or else the one with the fewest. Where it has no other parent than itself, it is compared with the blocks
-/// noted for its label, with those that the draft touches, and with its children where it is a parent of itself.
+/// noted for its label, and with its children where it is a parent of itself.
 ///
 /// Expected O(u k p log p) for u blocks that are examined, which are the merge candidates, and after each merge the
 /// merged block and the children of the smaller one, each with at most p parents and compared with at most k blocks;
-/// and what `merge_pair` takes for each merge. Most comparisons end at another label or at the first parent that
-/// differs. It takes the memory of `merge_pair`, and O(u + k + p).
+/// and what `merge_pair` takes for each merge, and `note_touched` once. Most comparisons end at another label or at the
+/// first parent that differs. It takes the memory of `merge_pair` and of `note_touched`, and O(u + k + p).
 pub fn merge(
     alloc: Global,
     base: &Summary,
     draft: &mut Draft,
-    parentless: &ParentlessBlocks,
+    parentless: &mut ParentlessBlocks,
     merge_candidates: &[u32],
 ) -> Result<(), Memory>
     requires over { IsOver base.now.blocks.block_of base.now.blocks.labels draft.old }
     requires graph { ShowsSupportsOfGraph base.now draft.old }
-    requires covers { CoversBase base.now parentless.now }
+    requires covers { CoversBase base.now parentless.old }
+    ensures covers { CoversBase base.now parentless.new }
+    ensures shown { OnOk result (CoversShown base.now draft.new parentless.new) }
     ensures over { OnOk result (IsOver base.now.blocks.block_of base.now.blocks.labels draft.new) }
     ensures merged { OnOk result (MergesToEnd base.now draft.old draft.new merge_candidates.now) }
     ensures supports { OnOk result (StayEdgeCounts base.now draft.old draft.new) }
     ensures block_labels { OnOk result (LabelsStayRight base.now draft.old draft.new) }
 {
+    parentless.note_touched(alloc, base, draft)?;
     let mut worklist = MergeCandidates::new(alloc);
     worklist.add_all(merge_candidates)?;
     let mut buffers = Buffers::new(alloc);

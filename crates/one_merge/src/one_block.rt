@@ -3,8 +3,9 @@ ghost use Rattle.std.specs.Prelude.{◌≡◌, ℕ, IsSome, IsTrue, OnOk};
 ghost use Rattle.graph_spec.specs.Members.{at, has};
 ghost use Rattle.bisim_spec.specs.Stability.{Mergeable};
 ghost use Rattle.one_spec.specs.Merges.{IsMerged};
-ghost use Rattle.quotient_draft.specs.Drafts.{shown_labels, shown_blocks};
+ghost use Rattle.quotient_draft.specs.Drafts.{shown_labels, shown_blocks, shown_support};
 ghost use Rattle.quotient_draft.specs.Basis.{IsOver};
+ghost use Rattle.one_merge.specs.Merged.{merged_support};
 ghost use Rattle.one_merge.specs.Shown.{ShowsSupportsOfGraph, AreShownMergeable, StayEdgeCounts, LabelsStayRight, KeepsStablePartition, PutsNodes};
 
 use crate::supports::merge_supports;
@@ -32,6 +33,7 @@ pub(crate) fn merge_pair(
     ensures graph { OnOk result (ShowsSupportsOfGraph base.now draft.new) }
     ensures merged { OnOk result (IsMerged a b (shown_blocks base.now draft.old) (shown_blocks base.now draft.new)) }
     ensures labels { OnOk result (shown_labels base.now draft.new ≡ shown_labels base.now draft.old) }
+    ensures pairs { OnOk result ((x c : ℕ) → shown_support base.now draft.new x c ≡ merged_support a b (shown_support base.now draft.old) x c) }
     ensures supports { OnOk result (StayEdgeCounts base.now draft.old draft.new) }
     ensures block_labels { OnOk result (LabelsStayRight base.now draft.old draft.new) }
     ensures viewed { OnOk result (KeepsStablePartition base.now draft.old draft.new) }

@@ -1,10 +1,10 @@
 // The blocks without other parents than themselves, by their labels.
-ghost use Rattle.std.specs.Prelude.{◌≡◌, ◌++◌, [], ℕ, IsTrue, IsSome, IfOk, OnOk, true, nat_eq};
-ghost use Rattle.std.specs.List.{list_all};
+ghost use Rattle.std.specs.Prelude.{◌≡◌, ◌≢◌, ◌++◌, [], ℕ, IsTrue, IsSome, IfOk, OnOk, true, nat_eq};
+ghost use Rattle.std.specs.List.{list_all, position};
 ghost use Rattle.graph_spec.specs.Members.{at, has};
 ghost use Rattle.bisim_spec.specs.IndexGraphs.{support_at};
 ghost use Rattle.quotient_draft.specs.Basis.{IsOver};
-ghost use Rattle.quotient_draft.specs.Drafts.{settled_view, shown_support};
+ghost use Rattle.quotient_draft.specs.Drafts.{settled_view, shown_labels, shown_support};
 ghost use Rattle.quotient_draft.specs.PairEnds.{listed};
 ghost use Rattle.one_merge.specs.ParentlessBlocks.{IsNoted, IsParentless, CoversBase, CoversShown, NotesParentless, NotesAllParentless};
 
@@ -152,6 +152,39 @@ impl ParentlessBlocks {
         Ok(())
     }
 
+    /// Notes the merged block, where it has members, and no other has support to it, as shown. The block that went into it is
+    /// dropped, unless it is one of the base.
+    pub(crate) fn note_merged(
+        &mut self,
+        base: &Summary,
+        draft: &Draft,
+        merged: u32,
+        gone: u32,
+    ) -> Result<(), Memory>
+        requires over { IsOver base.now.blocks.block_of base.now.blocks.labels draft.now }
+        requires block { IsSome (at (shown_labels base.now draft.now) gone) }
+        ensures base { CoversBase base.now self.old → CoversBase base.now self.new }
+        ensures others { OnOk result ((l c : ℕ) → c ≢ gone → IsNoted self.old l c → IsNoted self.new l c) }
+        ensures noted { OnOk result (NotesParentless (at (settled_view base.now draft.now).labels) (shown_support base.now draft.now) self.new merged) }
+    {
+        if !base.is_block(gone) {
+            self.drop_noted(draft.label(base, gone), gone);
+        }
+        self.note_shown(base, draft, merged)?;
+        Ok(())
+    }
+
+    // Drops a block from the list of a label.
+    fn drop_noted(&mut self, label: u32, b: u32)
+        ensures { (l c : ℕ) → c ≢ b → IsNoted self.old l c → IsNoted self.new l c }
+    {
+        if let Some(list) = self.lists.get_mut(&label) {
+            if take_out(list, b) {
+                self.further = self.further.saturating_sub(1);
+            }
+        }
+    }
+
     // Notes a block for a label, once.
     fn note(&mut self, label: u32, b: u32) -> Result<(), Memory>
         ensures kept { (l c : ℕ) → IsNoted self.old l c → IsNoted self.new l c }
@@ -205,6 +238,26 @@ fn add_list(lists: &mut Lists, label: u32, b: u32) -> Result<(), Memory>
     list.push(b)?;
     lists.insert(label, list)?;
     Ok(())
+}
+
+// Takes a block out of a list, and answers whether it was there.
+fn take_out(list: &mut SmallVec<u32, 4>, b: u32) -> bool
+    ensures { (c : ℕ) → c ≢ b → IsTrue (has list.old.items c) → IsTrue (has list.new.items c) }
+{
+    match place_of(list.as_slice(), b) {
+        Some(place) => {
+            list.swap_remove(place);
+            true
+        }
+        None => false,
+    }
+}
+
+// Where a block stands in a list, if it does.
+fn place_of(list: &[u32], b: u32) -> Option<usize>
+    ensures { result ≡ position (nat_eq b) list.now }
+{
+    list.iter().position(|x| b == *x)
 }
 
 // Whether the number is that of a block to which no other has support.

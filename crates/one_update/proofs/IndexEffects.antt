@@ -1,10 +1,9 @@
 -- A 1-index on the way to the graph that a change leaves.
-use Rattle.std.proofs.Common.{◌≡◌, ℕ, ◌+◌, ◌<◌, ◌≤◌, ◌^◌, List, [], ◌∷◌, ◌++◌, length, Option, Some, None, IsSome, IsTrue, is_some, refl, sym, ◌∙◌, ap, subst, inl, inr, true, false, cond, take, true≢false}
+use Rattle.std.proofs.Common.{◌≡◌, ℕ, ◌+◌, ◌<◌, ◌≤◌, ◌^◌, List, [], ◌∷◌, ◌++◌, length, Option, Some, None, IsSome, IsTrue, is_some, refl, sym, ◌∙◌, ap, subst, inl, inr, false, cond, take}
 use Rattle.std.specs.Prelude.{nat_eq}
 use Rattle.std.specs.FinSet as set
-use Rattle.std.proofs.lemmas.Bool.{false_from_ne_true}
 use Rattle.std.proofs.lemmas.Bool.Decides.{eqb_tells, Decides-eqb}
-use Rattle.graph_spec.specs.Graphs.{Graph, IsGraph, is_live, has_edge}
+use Rattle.graph_spec.specs.Graphs.{Graph, IsGraph, is_live}
 use Rattle.change_spec.specs.Steps.{Step, after}
 use Rattle.graph_spec.specs.Members.{at, has}
 use Rattle.graph_spec.specs.Shapes.{shape_of}
@@ -19,8 +18,8 @@ use Rattle.one_spec.specs.BlockLabels.{BlocksHaveLabels}
 use Rattle.graph_effects.specs.Effects.{EffectLists, AreEffects, without_edges, with_edges}
 use Rattle.graph_effects.specs.EffectBlocks.{HaveNodesMoved}
 use Rattle.graph_effects.proofs.EdgeLists.{pair_at, counts_lowered, counts_raised, lowered_some, counts_agree, counts_few}
-use Rattle.graph_effects.proofs.EffectLaws.{gone_parts, live_was, live_stayed, lost_edges, added_absent, left_in_both, counts_after, moved_none, moved_came, moved_gone, moved_labels, moved_partition, moved_named}
-use Rattle.one_update.proofs.ListedEffects.{within_after}
+use Rattle.graph_effects.proofs.EffectLaws.{gone_parts, live_was, live_stayed, lost_edges, added_absent, off_edges, off_left, counts_after, put_else, moved_none, moved_came, moved_gone, moved_labels, moved_partition, moved_named}
+use Rattle.graph_effects.proofs.ListedEffects.{within_after}
 use Rattle.quotient.specs.Quotients.{Quotient, view_of}
 use Rattle.quotient_draft.specs.Drafts.{Drafted, no_changes, shown_blocks, shown_labels, shown_support, with_added, with_supports, PutsNode}
 use Rattle.quotient_draft.specs.Basis.{IsOver}
@@ -64,16 +63,6 @@ index_base g q graph fits = record {
   supports = record { each = fits.view.supports };
 }
 
--- the number is no node of the graph, so no edge is at it
-off_edges : (g : Graph) (n u v : ℕ) → IsGraph g → is_live g n ≡ false → has_edge g u v ≡ true → (nat_eq u n ≡ false) × (nat_eq v n ≡ false)
-off_edges g n u v graph dead on = (
-  false_from_ne_true (nat_eq u n) (λ h. elim (eqb_tells u n) [ inl s ↦ true≢false (sym (graph.from u v on) ∙ ap (is_live g) s.1 ∙ dead) | inr o ↦ absurd (true≢false (sym h ∙ o.0)) ]),
-  false_from_ne_true (nat_eq v n) (λ h. elim (eqb_tells v n) [ inl s ↦ true≢false (sym (graph.onto u v on) ∙ ap (is_live g) s.1 ∙ dead) | inr o ↦ absurd (true≢false (sym h ∙ o.0)) ]),
-)
-
-put_off : (n : ℕ) (o : Option ℕ) (block block2 : List (Option ℕ)) → ((m : ℕ) → at block2 m ≡ cond (nat_eq m n) o (at block m)) → (m : ℕ) → nat_eq m n ≡ false → at block2 m ≡ at block m
-put_off n o block block2 put m h = put m ∙ ap (λ t. cond t o (at block m)) h
-
 -- nothing is drafted yet
 pub index_start : (g g2 : Graph) (q : Quotient) (d : Drafted) → IsIndexBase g q → d ≡ no_changes → IsIndexOnWay g2 g [] [] q d
 index_start g g2 q d base none =
@@ -95,7 +84,7 @@ index_joined g g2 came q d d2 n label graph dead w is j = record {
   nodes = moved_came g2 q.blocks.block_of (shown_blocks q d) (shown_blocks q d2) (at (shown_labels q d)) (at (shown_labels q d2)) came n j.block label w.nodes j.blocks j.labels j.label_is is;
   supports = counts_agree g (shown_blocks q d) (shown_blocks q d2) (shown_support q d) (shown_support q d2) w.supports (λ u v on.
       let off = off_edges g n u v graph dead on in
-      (put_off n (Some j.block) (shown_blocks q d) (shown_blocks q d2) j.blocks u off.0, put_off n (Some j.block) (shown_blocks q d) (shown_blocks q d2) j.blocks v off.1)) j.supports;
+      (put_else n (Some j.block) (shown_blocks q d) (shown_blocks q d2) j.blocks u off.0, put_else n (Some j.block) (shown_blocks q d) (shown_blocks q d2) j.blocks v off.1)) j.supports;
 }
 
 -- labels have stayed
@@ -118,8 +107,8 @@ index_left g g2 e gone q d d2 n w graph on way l =
     index_kept g2 (without_edges g e.lost) (without_edges g e.lost) e.came gone e.came (gone ++ n ∷ []) q d d2 way l.labels l.over
     (moved_gone g2 q.blocks.block_of (shown_blocks q d) (shown_blocks q d2) (at (shown_labels q d)) e.came gone n way.nodes l.blocks (live_was g g2 e n w parts.0))
     (counts_agree (without_edges g e.lost) (shown_blocks q d) (shown_blocks q d2) (shown_support q d) (shown_support q d2) way.supports (λ u v there.
-    let off = off_edges g2 n u v graph parts.1 (left_in_both g g2 e u v w there).1 in
-    (put_off n None (shown_blocks q d) (shown_blocks q d2) l.blocks u off.0, put_off n None (shown_blocks q d) (shown_blocks q d2) l.blocks v off.1)) l.supports)
+    let off = off_left g g2 e n u v w graph parts.1 there in
+    (put_else n None (shown_blocks q d) (shown_blocks q d2) l.blocks u off.0, put_else n None (shown_blocks q d) (shown_blocks q d2) l.blocks v off.1)) l.supports)
 
 index_counted : (g2 h h2 : Graph) (came gone : List ℕ) (q : Quotient) (d d2 : Drafted) → IsIndexOnWay g2 h came gone q d → shown_blocks q d2 ≡ shown_blocks q d
     → shown_labels q d2 ≡ shown_labels q d → IsOver q.blocks.block_of q.blocks.labels d2 → AreEdgeCounts h2 (shown_blocks q d) (shown_support q d2) → IsIndexOnWay g2 h2 came gone q d2

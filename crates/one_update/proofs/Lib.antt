@@ -4,6 +4,5 @@ pub mod EdgeChanges
 pub mod PhaseLaws
 pub mod PendingChanges
 pub mod Unreached
-pub mod ListedEffects
 pub mod IndexEffects
 pub mod SingleSteps

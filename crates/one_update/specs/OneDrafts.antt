@@ -1,5 +1,5 @@
--- What is drafted for a change of the graph of a 1-index (K. Yi, H. He, I. Stanoi and J. Yang, "Incremental Maintenance of XML
--- Structural Indexes", SIGMOD 2004).
+-- What is drafted for a change of the graph of a 1-index (K. Yi, H. He, I. Stanoi and J. Yang, "Incremental Maintenance
+-- of XML Structural Indexes", SIGMOD 2004).
 use Rattle.std.specs.Prelude.{◌≡◌, ◌<◌, ◌≤◌, ◌^◌, ◌↔◌, ℕ, ◌+◌, ◌*◌, Bool, List, length, Option, [], Some, IsFalse, IsTrue, nat_eq}
 use Rattle.std.specs.List.{IsDistinct}
 use Rattle.std.specs.FinSet as set
@@ -29,7 +29,8 @@ use Rattle.one_spec.specs.BlockLabels.{BlocksHaveLabels, BlocksHaveLabelsBut}
 use Rattle.one_spec.specs.EdgeCounts.{AreEdgeCounts}
 
 -- The draft shows the graph after the change, with nodes in the blocks in which they were: a new node has some block.
--- The partition may be unstable at the targets, and a block may have another label than a node that gets another one.
+-- The partition may be unstable at the targets, and a node that gets another label may be in a block that has its old
+-- one.
 pub record ShowsChange (g : Graph) (c : List Step) (q : Quotient) (d : Drafted) : Type 0 where
   pub over : IsOver q.blocks.block_of q.blocks.labels d
   pub partition : IsPartition (shape_of (after c g)) (shown_blocks q d)
@@ -118,7 +119,8 @@ pub record ShowsStableBut (g : Graph) (targets : List ℕ) (q : Quotient) (d : D
   -- the support of a pair of blocks is the number of edges from the first to the second
   pub supports : AreEdgeCounts g (shown_blocks q d) (shown_support q d)
 
--- The base was a minimal 1-index of the graph before the change, and the draft shows each node of both graphs in its old block.
+-- The base was a minimal 1-index of the graph before the change, and the draft shows each node of both graphs in its
+-- old block.
 pub record KeepsMinimal (a : Pending) (q : Quotient) (d : Drafted) : Type 0 where
   -- the partition of the base was stable before the change
   pub stable : Stable (shape_of a.before) q.blocks.block_of

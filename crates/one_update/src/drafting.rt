@@ -11,11 +11,10 @@ ghost use Rattle.graph_update.specs.PendingChanges.{graph_after};
 ghost use Rattle.graph_effects.specs.Effects.{AreEffects};
 ghost use Rattle.quotient.specs.Quotients.{view_of};
 ghost use Rattle.quotient_draft.specs.Drafts.{no_changes, has_member, settled_view, shown_blocks, shown_support};
-ghost use Rattle.one_merge.specs.ParentlessBlocks.{CoversBase};
+ghost use Rattle.one_merge.specs.ParentlessBlocks.{CoversBase, CoversShown};
 ghost use Rattle.one_update.specs.OneDrafts.{IsBefore, IsDrafted, IsSupported, most_steps, rounds_cost};
 
 use crate::effects::draft_effects;
-use crate::index_tables::IndexTables;
 use crate::linking::{draft_link, draft_unlink};
 use crate::resettling::{each_once, resettle};
 use graph_effects::Effects;
@@ -32,96 +31,110 @@ use std::sync::ledger::Ledger;
 // Drafts the effects of a change, and settles the index again.
 fn draft_settled<L: Ledger>(
     alloc: Global,
-    index: &IndexTables<'_>,
+    base: &Summary,
     draft: &mut Draft,
+    parentless: &mut ParentlessBlocks,
     after: &After<'_>,
     effects: &Effects,
     steps: &mut Steps<L>,
 ) -> Result<(), Memory>
-    requires before { IsBefore after.now index.now.base.now }
-    requires covers { CoversBase index.now.base.now index.now.parentless.now }
+    requires before { IsBefore after.now base.now }
+    requires covers { CoversBase base.now parentless.old }
     requires empty { draft.old ≡ no_changes }
     requires effects { AreEffects after.now.before (graph_after after.now) effects.now }
     requires targets { (n : ℕ) → IsTrue (has effects.now.targets n) → IsTrue (targets after.now.change after.now.before n) }
-    requires moves { KeepsParents after.now.change (graph_after after.now) index.now.base.now.blocks.block_of → ⊥ }
-    ensures drafted { OnOk result (IsDrafted after.now.before after.now.change index.now.base.now draft.new) }
+    requires moves { KeepsParents after.now.change (graph_after after.now) base.now.blocks.block_of → ⊥ }
+    ensures covers { CoversBase base.now parentless.new }
+    ensures shown { OnOk result (CoversShown base.now draft.new parentless.new) }
+    ensures drafted { OnOk result (IsDrafted after.now.before after.now.change base.now draft.new) }
     ensures cost { steps.new ≤ steps.old + 4 * rounds_cost after.now.before after.now.change }
 {
-    draft_effects(index.base, draft, after, effects)?;
+    draft_effects(base, draft, after, effects)?;
     let found = each_once(alloc, effects.targets())?;
-    resettle(alloc, index, draft, after, &found, steps)?;
+    resettle(alloc, base, draft, parentless, after, &found, steps)?;
     Ok(())
 }
 
 // What steps make of the index by their effects, whichever they are.
 fn draft_steps<L: Ledger>(
     alloc: Global,
-    index: &IndexTables<'_>,
+    base: &Summary,
     draft: &mut Draft,
+    parentless: &mut ParentlessBlocks,
     graph: &Graph,
     change: &Change,
     after: &After<'_>,
     steps: &mut Steps<L>,
 ) -> Result<(), Memory>
-    requires before { IsBefore after.now index.now.base.now }
-    requires covers { CoversBase index.now.base.now index.now.parentless.now }
+    requires before { IsBefore after.now base.now }
+    requires covers { CoversBase base.now parentless.old }
     requires empty { draft.old ≡ no_changes }
     requires graph { after.now.before ≡ graph.now.graph }
     requires same { after.now.change ≡ change.now }
-    requires moves { KeepsParents after.now.change (graph_after after.now) index.now.base.now.blocks.block_of → ⊥ }
-    ensures drafted { OnOk result (IsDrafted after.now.before after.now.change index.now.base.now draft.new) }
+    requires moves { KeepsParents after.now.change (graph_after after.now) base.now.blocks.block_of → ⊥ }
+    ensures covers { CoversBase base.now parentless.new }
+    ensures shown { OnOk result (CoversShown base.now draft.new parentless.new) }
+    ensures drafted { OnOk result (IsDrafted after.now.before after.now.change base.now draft.new) }
     ensures cost { steps.new ≤ steps.old + most_steps after.now.before after.now.change }
 {
     let effects = Effects::of(alloc, graph, change, after, steps)?;
-    draft_settled(alloc, index, draft, after, &effects, steps)?;
+    draft_settled(alloc, base, draft, parentless, after, &effects, steps)?;
     Ok(())
 }
 
 // An edge comes.
 fn add_edge<L: Ledger>(
     alloc: Global,
-    index: &IndexTables<'_>,
+    base: &Summary,
     draft: &mut Draft,
+    parentless: &mut ParentlessBlocks,
     after: &After<'_>,
     u: NodeId,
     v: NodeId,
     steps: &mut Steps<L>,
 ) -> Result<(), Memory>
-    requires before { IsBefore after.now index.now.base.now }
-    requires covers { CoversBase index.now.base.now index.now.parentless.now }
+    requires before { IsBefore after.now base.now }
+    requires covers { CoversBase base.now parentless.old }
     requires empty { draft.old ≡ no_changes }
     requires links { after.now.change ≡ link u v ∷ [] }
-    ensures drafted { OnOk result (IsDrafted after.now.before after.now.change index.now.base.now draft.new) }
+    ensures covers { CoversBase base.now parentless.new }
+    ensures shown { OnOk result (CoversShown base.now draft.new parentless.new) }
+    ensures drafted { OnOk result (IsDrafted after.now.before after.now.change base.now draft.new) }
     ensures cost { steps.new ≤ steps.old + most_steps after.now.before after.now.change }
-    ensures free { IsSupported (view_of index.now.base.now) u v → steps.new ≡ steps.old }
+    ensures free { IsSupported (view_of base.now) u v → steps.new ≡ steps.old }
 {
-    if draft_link(index.base, draft, after, u, v)? {
+    if draft_link(base, draft, after, u, v)? {
+        parentless.note_touched(alloc, base, draft)?;
         return Ok(());
     }
-    resettle(alloc, index, draft, after, &[v], steps)
+    resettle(alloc, base, draft, parentless, after, &[v], steps)
 }
 
 // An edge goes.
 fn drop_edge<L: Ledger>(
     alloc: Global,
-    index: &IndexTables<'_>,
+    base: &Summary,
     draft: &mut Draft,
+    parentless: &mut ParentlessBlocks,
     after: &After<'_>,
     u: NodeId,
     v: NodeId,
     steps: &mut Steps<L>,
 ) -> Result<(), Memory>
-    requires before { IsBefore after.now index.now.base.now }
-    requires covers { CoversBase index.now.base.now index.now.parentless.now }
+    requires before { IsBefore after.now base.now }
+    requires covers { CoversBase base.now parentless.old }
     requires empty { draft.old ≡ no_changes }
     requires unlinks { after.now.change ≡ unlink u v ∷ [] }
-    ensures drafted { OnOk result (IsDrafted after.now.before after.now.change index.now.base.now draft.new) }
+    ensures covers { CoversBase base.now parentless.new }
+    ensures shown { OnOk result (CoversShown base.now draft.new parentless.new) }
+    ensures drafted { OnOk result (IsDrafted after.now.before after.now.change base.now draft.new) }
     ensures cost { steps.new ≤ steps.old + most_steps after.now.before after.now.change }
 {
-    if draft_unlink(index.base, draft, after, u, v, steps)? {
+    if draft_unlink(base, draft, after, u, v, steps)? {
+        parentless.note_touched(alloc, base, draft)?;
         return Ok(());
     }
-    resettle(alloc, index, draft, after, &[v], steps)
+    resettle(alloc, base, draft, parentless, after, &[v], steps)
 }
 
 // The step that stands alone.
@@ -135,61 +148,72 @@ fn single_step(all: &[Step]) -> Option<&Step>
 // What a single step makes: an edge that comes or goes is drafted without effects.
 fn draft_single<L: Ledger>(
     alloc: Global,
-    index: &IndexTables<'_>,
+    base: &Summary,
     draft: &mut Draft,
+    parentless: &mut ParentlessBlocks,
     graph: &Graph,
     change: &Change,
     step: &Step,
     after: &After<'_>,
     steps: &mut Steps<L>,
 ) -> Result<(), Memory>
-    requires before { IsBefore after.now index.now.base.now }
-    requires covers { CoversBase index.now.base.now index.now.parentless.now }
+    requires before { IsBefore after.now base.now }
+    requires covers { CoversBase base.now parentless.old }
     requires empty { draft.old ≡ no_changes }
     requires graph { after.now.before ≡ graph.now.graph }
     requires same { after.now.change ≡ change.now }
     requires single { after.now.change ≡ step_of step.now ∷ [] }
-    ensures drafted { OnOk result (IsDrafted after.now.before after.now.change index.now.base.now draft.new) }
+    ensures covers { CoversBase base.now parentless.new }
+    ensures shown { OnOk result (CoversShown base.now draft.new parentless.new) }
+    ensures drafted { OnOk result (IsDrafted after.now.before after.now.change base.now draft.new) }
     ensures cost { steps.new ≤ steps.old + most_steps after.now.before after.now.change }
-    ensures free { (u v : ℕ) → after.now.change ≡ link u v ∷ [] → IsSupported (view_of index.now.base.now) u v → steps.new ≡ steps.old }
+    ensures free { (u v : ℕ) → after.now.change ≡ link u v ∷ [] → IsSupported (view_of base.now) u v → steps.new ≡ steps.old }
 {
     match step {
-        Step::Node(_) => draft_steps(alloc, index, draft, graph, change, after, steps),
-        Step::Link(u, v) => add_edge(alloc, index, draft, after, *u, *v, steps),
-        Step::Unlink(u, v) => drop_edge(alloc, index, draft, after, *u, *v, steps),
-        Step::Drop(_) => draft_steps(alloc, index, draft, graph, change, after, steps),
-        Step::Relabel(_, _) => draft_steps(alloc, index, draft, graph, change, after, steps),
+        Step::Node(_) => draft_steps(alloc, base, draft, parentless, graph, change, after, steps),
+        Step::Link(u, v) => add_edge(alloc, base, draft, parentless, after, *u, *v, steps),
+        Step::Unlink(u, v) => drop_edge(alloc, base, draft, parentless, after, *u, *v, steps),
+        Step::Drop(_) => draft_steps(alloc, base, draft, parentless, graph, change, after, steps),
+        Step::Relabel(_, _) => draft_steps(
+            alloc, base, draft, parentless, graph, change, after, steps,
+        ),
     }
 }
 
 // What the change makes.
 fn draft_pending<L: Ledger>(
     alloc: Global,
-    index: &IndexTables<'_>,
+    base: &Summary,
     draft: &mut Draft,
+    parentless: &mut ParentlessBlocks,
     graph: &Graph,
     change: &Change,
     after: &After<'_>,
     steps: &mut Steps<L>,
 ) -> Result<(), Memory>
-    requires before { IsBefore after.now index.now.base.now }
-    requires covers { CoversBase index.now.base.now index.now.parentless.now }
+    requires before { IsBefore after.now base.now }
+    requires covers { CoversBase base.now parentless.old }
     requires empty { draft.old ≡ no_changes }
     requires graph { after.now.before ≡ graph.now.graph }
     requires same { after.now.change ≡ change.now }
-    ensures drafted { OnOk result (IsDrafted after.now.before after.now.change index.now.base.now draft.new) }
+    ensures covers { CoversBase base.now parentless.new }
+    ensures shown { OnOk result (CoversShown base.now draft.new parentless.new) }
+    ensures drafted { OnOk result (IsDrafted after.now.before after.now.change base.now draft.new) }
     ensures cost { steps.new ≤ steps.old + most_steps after.now.before after.now.change }
-    ensures free { (u v : ℕ) → after.now.change ≡ link u v ∷ [] → IsSupported (view_of index.now.base.now) u v → steps.new ≡ steps.old }
+    ensures free { (u v : ℕ) → after.now.change ≡ link u v ∷ [] → IsSupported (view_of base.now) u v → steps.new ≡ steps.old }
 {
     match single_step(change.steps()) {
-        Some(step) => draft_single(alloc, index, draft, graph, change, step, after, steps),
-        None => draft_steps(alloc, index, draft, graph, change, after, steps),
+        Some(step) => draft_single(
+            alloc, base, draft, parentless, graph, change, step, after, steps,
+        ),
+        None => draft_steps(alloc, base, draft, parentless, graph, change, after, steps),
     }
 }
 
 /// Drafts what a change, which `judge` accepts as new, will make of the 1-index of a graph: the next partition,
 /// its labels and its supports. The graph is as it was. Once the draft is settled, the 1-index is that of the graph
-/// after the change. The blocks of the base to which no other has support are among the parentless blocks.
+/// after the change. The blocks of the base to which no other has support are among the parentless blocks, and those of
+/// the settled draft come to them.
 ///
 /// It takes at most `8 * (r + 1) * w` steps, where the change reaches `r` nodes, and `w` is what it costs there: one for
 /// each of them, for each parent and for each child, one for each step of the change, and one for each node that goes, for
@@ -203,15 +227,17 @@ pub fn draft_change<L: Ledger>(
     alloc: Global,
     base: &Summary,
     draft: &mut Draft,
-    parentless: &ParentlessBlocks,
+    parentless: &mut ParentlessBlocks,
     graph: &Graph,
     change: &Change,
     steps: &mut Steps<L>,
 ) -> Result<(), Memory>
     requires fits { FitsOne graph.now.graph (view_of base.now) }
-    requires covers { CoversBase base.now parentless.now }
+    requires covers { CoversBase base.now parentless.old }
     requires new { IsNew change.now graph.now.graph }
     requires empty { draft.old ≡ no_changes }
+    ensures covers { CoversBase base.now parentless.new }
+    ensures shown { OnOk result (CoversShown base.now draft.new parentless.new) }
     ensures drafted { OnOk result (IsDrafted graph.now.graph change.now base.now draft.new) }
     ensures fits { OnOk result (FitsOne (after change.now graph.now.graph) (settled_view base.now draft.new)) }
     ensures from { OnOk result ((b c : ℕ) → has_member (shown_blocks base.now draft.new) b ≡ false → shown_support base.now draft.new b c ≡ 0) }
@@ -223,7 +249,6 @@ pub fn draft_change<L: Ledger>(
     let _known = graph.created();
     let _known = graph.edge_count();
     let after = After::new(graph, change);
-    let index = IndexTables { base, parentless };
-    draft_pending(alloc, &index, draft, graph, change, &after, steps)?;
+    draft_pending(alloc, base, draft, parentless, graph, change, &after, steps)?;
     Ok(())
 }

@@ -8,7 +8,6 @@
 mod counting;
 mod drafting;
 mod effects;
-mod index_tables;
 mod joining;
 mod leaving;
 mod linking;

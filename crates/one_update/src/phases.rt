@@ -11,7 +11,7 @@ use crate::resettling::add_blocks;
 use affected_nodes::reached_nodes;
 use graph_update::After;
 use one_merge::ParentlessBlocks;
-use px_base::{Bits, Memory, NodeId, Steps};
+use px_base::{Bits, Memory, Steps};
 use quotient::Summary;
 use quotient_draft::Draft;
 use std::alloc::Global;
@@ -28,7 +28,7 @@ use std::sync::ledger::Ledger;
 /// for each of its parents and for each of its children. After `Memory`, which also comes past 2^31 blocks, the
 /// draft must be cleared before it is used again.
 ///
-/// Expected O(a + (r + 1) w log w) at most for a set of numbers below a; it takes O(w) memory.
+/// Expected O(a + (r + 1) w log w) at most, for a set of numbers below a; it takes O(w) memory.
 pub fn split<L: Ledger>(
     alloc: Global,
     base: &Summary,
@@ -63,8 +63,8 @@ pub fn split<L: Ledger>(
 /// for each of its parents and for each of its children. After `Memory` the draft must be cleared before it is used
 /// again.
 ///
-/// Expected O(a + w + b) to find the blocks, with b blocks, for a set of numbers below a, and then what `one_merge::merge` takes from these on. It takes O(w)
-/// memory, and what is merged.
+/// Expected O(a + w + b) to find the blocks, with b blocks and a set of numbers below a, and then what `one_merge::merge`
+/// takes from these on. It takes O(w) memory, and what is merged.
 pub fn merge<L: Ledger>(
     alloc: Global,
     base: &Summary,
@@ -87,7 +87,7 @@ pub fn merge<L: Ledger>(
     let nodes = reached_nodes(alloc, after, &targets, steps)?;
     let mut blocks = Vec::new(alloc);
     add_blocks(base, draft, &nodes, &mut blocks)?;
-    let parentless = ParentlessBlocks::of(alloc, base)?;
-    one_merge::merge(alloc, base, draft, &parentless, &blocks)?;
+    let mut parentless = ParentlessBlocks::of(alloc, base)?;
+    one_merge::merge(alloc, base, draft, &mut parentless, &blocks)?;
     Ok(())
 }

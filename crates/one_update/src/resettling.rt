@@ -6,13 +6,12 @@ ghost use Rattle.change_spec.specs.NextOne.{KeepsParents};
 ghost use Rattle.graph_update.specs.PendingChanges.{graph_after};
 ghost use Rattle.quotient_draft.specs.Drafts.{shown_blocks};
 ghost use Rattle.quotient_draft.specs.Basis.{IsOver};
-ghost use Rattle.one_merge.specs.ParentlessBlocks.{CoversBase};
+ghost use Rattle.one_merge.specs.ParentlessBlocks.{CoversBase, CoversShown};
 ghost use Rattle.one_update.specs.OneDrafts.{IsBefore, AreFoundTargets, ShowsChange, IsDrafted, ListsBlocksOf, rounds_cost};
 
-use crate::index_tables::IndexTables;
 use graph_update::After;
 use key_table::sort_dedup;
-use one_merge::merge;
+use one_merge::{ParentlessBlocks, merge};
 use one_split::split;
 use px_base::{Memory, NodeId, Steps};
 use quotient::Summary;
@@ -64,25 +63,28 @@ pub(crate) fn each_once(alloc: Global, nodes: &[NodeId]) -> Result<Vec<NodeId>, 
 /// two can be merged.
 pub(crate) fn resettle<L: Ledger>(
     alloc: Global,
-    index: &IndexTables<'_>,
+    base: &Summary,
     draft: &mut Draft,
+    parentless: &mut ParentlessBlocks,
     after: &After<'_>,
     targets: &[NodeId],
     steps: &mut Steps<L>,
 ) -> Result<(), Memory>
-    requires before { IsBefore after.now index.now.base.now }
-    requires covers { CoversBase index.now.base.now index.now.parentless.now }
-    requires changed { ShowsChange after.now.before after.now.change index.now.base.now draft.old }
+    requires before { IsBefore after.now base.now }
+    requires covers { CoversBase base.now parentless.old }
+    requires changed { ShowsChange after.now.before after.now.change base.now draft.old }
     requires targets { AreFoundTargets after.now.before after.now.change targets.now }
-    requires moves { KeepsParents after.now.change (graph_after after.now) index.now.base.now.blocks.block_of → ⊥ }
-    ensures drafted { OnOk result (IsDrafted after.now.before after.now.change index.now.base.now draft.new) }
+    requires moves { KeepsParents after.now.change (graph_after after.now) base.now.blocks.block_of → ⊥ }
+    ensures covers { CoversBase base.now parentless.new }
+    ensures shown { OnOk result (CoversShown base.now draft.new parentless.new) }
+    ensures drafted { OnOk result (IsDrafted after.now.before after.now.change base.now draft.new) }
     ensures cost { steps.new ≤ steps.old + 4 * rounds_cost after.now.before after.now.change }
 {
     // Called for its contract: edges are few.
     let _known = after.created();
     let mut blocks = Vec::new(alloc);
-    split(alloc, index.base, draft, after, targets, &mut blocks, steps)?;
-    add_blocks(index.base, draft, targets, &mut blocks)?;
-    merge(alloc, index.base, draft, index.parentless, &blocks)?;
+    split(alloc, base, draft, after, targets, &mut blocks, steps)?;
+    add_blocks(base, draft, targets, &mut blocks)?;
+    merge(alloc, base, draft, parentless, &blocks)?;
     Ok(())
 }

@@ -1,8 +1,10 @@
 -- How the lengths of parts make that of the whole.
-use Rattle.std.proofs.Common.{◌≡◌, ℕ, ◌+◌, ◌<◌, length, take, get_or, List, [], ◌∷◌, ◌++◌, refl, sym, ap, ◌∙◌, arith, max, Option, None, Some}
+use Rattle.std.proofs.Common.{◌≡◌, ℕ, ◌+◌, ◌<◌, length, take, get_or, List, [], ◌∷◌, ◌++◌, refl, sym, ap, ◌∙◌, arith, Option, None, Some}
 use Rattle.std.proofs.lemmas.List.{take_more}
 use Rattle.path_spec.specs.Trees as tree
-use Rattle.path_expr.specs.WordLengths.{longest, seq_longest, item_longest, greater, together}
+use Rattle.path_spec.specs.Longest.{greater}
+use Rattle.path_spec.proofs.Longest.{greater_assoc}
+use Rattle.path_expr.specs.WordLengths.{longest, seq_longest, item_longest, together}
 use Rattle.path_expr.specs.declared.tree.Sep.{Sep}
 use Rattle.path_expr.specs.declared.tree.Sep.TheVariants.{Child, Below}
 use Rattle.path_expr.specs.declared.tree.Following.{Following}
@@ -15,12 +17,6 @@ together_assoc None b c = refl
 together_assoc (Some m) None c = refl
 together_assoc (Some m) (Some n) None = refl
 together_assoc (Some m) (Some n) (Some k) = let e : m + (n + k) ≡ m + n + k = omega arith in ap Some e
-
-greater_assoc : (a b c : Option ℕ) → greater a (greater b c) ≡ greater (greater a b) c
-greater_assoc None b c = refl
-greater_assoc (Some m) None c = refl
-greater_assoc (Some m) (Some n) None = refl
-greater_assoc (Some m) (Some n) (Some k) = let e : max m (max n k) ≡ max (max m n) k = omega arith in ap Some e
 
 together_none : (a : Option ℕ) → together a None ≡ None
 together_none None = refl

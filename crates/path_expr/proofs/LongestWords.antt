@@ -4,8 +4,8 @@ use Rattle.std.specs.List.{AllByRecursion}
 use Rattle.std.proofs.lemmas.Bool.{cases_lt}
 use Rattle.path_spec.specs.Trees.{star, plus, opt, child, below, Expr, only, or, Seq, last, then, Item, once, signed, Atom, label, any, group}
 use Rattle.path_spec.specs.Matches.{Word, joined, AnyWord, Then, Pieces, Matches, MatchesSeq, MatchesItem, MatchesAtom}
-use Rattle.path_spec.specs.Longest.{IsLongest}
-use Rattle.path_expr.specs.WordLengths.{greater, together, longest, seq_longest, item_longest, atom_longest}
+use Rattle.path_spec.specs.Longest.{IsLongest, greater}
+use Rattle.path_expr.specs.WordLengths.{together, longest, seq_longest, item_longest, atom_longest}
 
 -- that, and some word that isn't empty
 pub record IsLong (P : Word → Type 0) (o : Option ℕ) : Type 0 where

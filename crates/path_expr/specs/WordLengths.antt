@@ -1,11 +1,7 @@
 -- The length of the longest matching word, by recursion on the tree.
-use Rattle.std.specs.Prelude.{ℕ, ◌+◌, max, Option, None, Some}
+use Rattle.std.specs.Prelude.{ℕ, ◌+◌, Option, None, Some}
+use Rattle.path_spec.specs.Longest.{greater}
 use Rattle.path_spec.specs.Trees.{star, plus, opt, child, below, Expr, only, or, Seq, last, then, Item, once, signed, Atom, label, any, group}
-
-abbrev pub greater : Option ℕ → Option ℕ → Option ℕ
-greater None b = None
-greater (Some m) None = None
-greater (Some m) (Some n) = Some (max m n)
 
 abbrev pub together : Option ℕ → Option ℕ → Option ℕ
 together None b = None

@@ -1,8 +1,9 @@
 // The length of the longest matching word.
 ghost use Rattle.std.specs.Prelude.{◌≡◌, ℕ, Option, None};
+ghost use Rattle.path_spec.specs.Longest.{greater};
 ghost use Rattle.path_expr.specs.declared.tree.Sep.TheVariants as seps;
 ghost use Rattle.path_expr.specs.ExprTrees.{atom_of, item_of, seq_of};
-ghost use Rattle.path_expr.specs.WordLengths.{longest, seq_longest, item_longest, atom_longest, greater, together};
+ghost use Rattle.path_expr.specs.WordLengths.{longest, seq_longest, item_longest, atom_longest, together};
 ghost use Rattle.path_expr.specs.Capped.{IsCapped};
 
 use crate::tree::{Atom, Expr, Item, Sep, Seq, Sign};

@@ -102,6 +102,16 @@ module _ {Token : Type 0} {SpellsToken : List ℕ → Token → Type 0} {EndsTok
       let same = language.one (past text) u v f.rest g.rest f.prefix g.prefix in
       ap (λ x. x ∷ us) same.0 ∙ ap (λ x. v ∷ x) (tokens_one us vs f.rest f.more (subst (λ x. SpellsTokens x vs) (sym same.1) g.more))
 
+  -- each token has a byte
+  pub tokens_few : (ts : List Token) (text : List ℕ) → SpellsTokens text ts → length ts ≤ length text
+  tokens_few [] text h = omega arith
+  tokens_few (t ∷ ts) text h =
+      let f = first_token text t ts h in
+      let less : length f.rest < length (past text) = prefix_shorter (past text) t f.rest f.prefix in
+      let cut : length (past text) ≤ length text = past_shorter text in
+      let more : length ts ≤ length f.rest = tokens_few ts f.rest f.more in
+      omega arith
+
   pub lexed_none : (text left : List ℕ) → left ≡ past text → Lexed SpellsTokens text left []
   lexed_none text left e = subst (λ x. Lexed SpellsTokens text x []) (sym e) (record {
     begun = past_begun text;

@@ -1,18 +1,17 @@
 -- A text has a byte or more for each label of the longest word, since each of these is a token.
-use Rattle.std.proofs.Common.{◌≡◌, ℕ, ◌+◌, ◌≤◌, ◌<◌, ◌^◌, List, [], ◌∷◌, length, Option, None, Some, false, inl, inr, refl, sym, ap, min, ◌∙◌, arith, lt-ltb, true≢false}
+use Rattle.std.proofs.Common.{◌≡◌, ℕ, ◌+◌, ◌≤◌, ◌^◌, List, [], ◌∷◌, length, Option, None, Some, false, inl, inr, refl, sym, ap, min, ◌∙◌, arith, lt-ltb, true≢false}
 use Rattle.std.specs.Prelude.{nat_lt, ◌||◌}
 use Rattle.std.proofs.lemmas.Bool.{cases_lt}
 use Rattle.graph_spec.specs.declared.limits.Limits.{Limits}
+use Rattle.path_spec.specs.Longest.{greater}
 use Rattle.path_spec.specs.Trees.{star, plus, opt, child, below, Expr, only, or, Seq, last, then, Item, once, signed, Atom, label, any, group}
 use Rattle.path_spec.specs.Tokens.{Token, slash, slashes, bar, opening, closing, sign, onto, seq_onto, item_onto, atom_onto, tokens}
-use Rattle.path_spec.specs.Spelling.{SpellsTokens}
-use Rattle.path_expr.specs.WordLengths.{longest, seq_longest, item_longest, atom_longest, greater, together}
+use Rattle.path_expr.specs.WordLengths.{longest, seq_longest, item_longest, atom_longest, together}
 use Rattle.path_expr.specs.Capped.{capped, greatest_length}
-use Rattle.path_query.specs.Labels.{SpellsLabel}
 use Rattle.path_query.specs.Lengths.{IsBounded, IsNarrow}
 use Rattle.path_query.specs.Depths.{depth}
 use Rattle.path_query.specs.Parsed.{Spells, is_past}
-use Rattle.path_query.proofs.LexerLaws.{past, first_token, prefix_shorter, past_shorter}
+use Rattle.path_query.proofs.LexerLaws.{tokens_few}
 use Rattle.path_query.proofs.TokenPrefixLaws.{path_language}
 
 -- the tokens in front of the others are at least as many as the labels of the longest word
@@ -74,16 +73,6 @@ mutual
       let inner = onto e (closing ∷ r) in
       more_add (longest e) r inner opening (fewer_add (longest e) r inner closing (expr_adds e (closing ∷ r)))
 
--- each token has a byte
-tokens_few : (ts : List Token) (text : List ℕ) → SpellsTokens SpellsLabel text ts → length ts ≤ length text
-tokens_few [] text h = omega arith
-tokens_few (t ∷ ts) text h =
-    let f = first_token path_language text t ts h in
-    let less : length f.rest < length (past text) = prefix_shorter path_language (past text) t f.rest f.prefix in
-    let cut : length (past text) ≤ length text = past_shorter text in
-    let more : length ts ≤ length f.rest = tokens_few ts f.rest f.more in
-    omega arith
-
 within_bytes : (o : Option ℕ) (all : List Token) (most : ℕ) → Adds o [] all → length all ≤ most → IsBounded o most
 within_bytes None all most h le = tt
 within_bytes (Some n) all most h le = omega (arith, h, le)
@@ -94,6 +83,10 @@ not_past limits text fits = elim (cases_lt limits.expr_bytes (length text)) [
   | inr within ↦ within
 ]
 
+-- a text within the limits has at most 2^30 bytes
+pub few_bytes : (limits : Limits) (text : List ℕ) → is_past limits text ≡ false → length text ≤ 2 ^ 30
+few_bytes limits text fits = let within = not_past limits text fits in let most = limits.expr_bytes_bounded in omega (arith, within, most)
+
 -- a length that fits into 32 bits fits into 64
 pub uncapped : (o : Option ℕ) → IsBounded o (2 ^ 30) → capped greatest_length o ≡ o
 uncapped None h = refl
@@ -102,7 +95,6 @@ uncapped (Some n) h = let e : min n greatest_length ≡ n = omega (arith, h) in 
 -- what a text within the limits spells
 pub narrow : (limits : Limits) (text : List ℕ) (e : Expr) → is_past limits text ≡ false → Spells text e → IsNarrow e
 narrow limits text e fits h =
-    let few : length (tokens e) ≤ length text = tokens_few (tokens e) text h in
-    let short : length text ≤ limits.expr_bytes = not_past limits text fits in
-    let most : limits.expr_bytes ≤ 2 ^ 30 = limits.expr_bytes_bounded in
+    let few : length (tokens e) ≤ length text = tokens_few path_language (tokens e) text h in
+    let short : length text ≤ 2 ^ 30 = few_bytes limits text fits in
     within_bytes (longest e) (tokens e) (2 ^ 30) (expr_adds e []) (omega arith)

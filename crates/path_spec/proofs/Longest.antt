@@ -1,7 +1,7 @@
--- There is one longest length.
-use Rattle.std.proofs.Common.{◌≡◌, ℕ, ◌+◌, ◌≤◌, length, refl, ap, arith, Option, None, Some}
+-- There is one longest length, and the greatest of three is one.
+use Rattle.std.proofs.Common.{◌≡◌, ℕ, ◌+◌, ◌≤◌, length, refl, ap, arith, max, Option, None, Some}
 use Rattle.path_spec.specs.Matches.{Word}
-use Rattle.path_spec.specs.Longest.{IsLongest}
+use Rattle.path_spec.specs.Longest.{IsLongest, greater}
 
 -- where some length is the greatest, no words are as long as one likes
 bounded_or_not : (P : Word → Type 0) (n : ℕ) → IsLongest P None → IsLongest P (Some n) → ⊥
@@ -24,3 +24,9 @@ one_longest P (Some m) (Some n) h k =
     let high : length w.0 ≤ m = h.1 w.0 w.1 in
     let same : m ≡ n = omega (arith, one, other, low, high) in
     ap Some same
+
+pub greater_assoc : (a b c : Option ℕ) → greater a (greater b c) ≡ greater (greater a b) c
+greater_assoc None b c = refl
+greater_assoc (Some m) None c = refl
+greater_assoc (Some m) (Some n) None = refl
+greater_assoc (Some m) (Some n) (Some k) = let e : max m (max n k) ≡ max (max m n) k = omega arith in ap Some e

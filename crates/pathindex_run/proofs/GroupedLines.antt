@@ -20,6 +20,9 @@ all_outside (l ∷ ls) h = inr (h 0 l refl, all_outside ls (λ i m e. h (suc i) 
 -- no command that stands alone is the first line of a group
 alone_begin : (rules : Rules) (s : State) (c : Command) (printed : List ℕ) (refuses : Bool) (t : State) → Obeys rules s c printed refuses t → lead (keyword c) ≡ lead (codes "begin") → ⊥
 alone_begin rules s _ _ _ _ (runs.changes x _ _ _ _) e = (no_query x).no_begin e
+alone_begin rules s _ _ _ _ (runs.inserts _ _ _ _ _) e = omega (arith, e)
+alone_begin rules s _ _ _ _ (runs.deletes _ _ _ _ _ _ _) e = omega (arith, e)
+alone_begin rules s _ _ _ _ (runs.misses _ _) e = omega (arith, e)
 alone_begin rules s _ _ _ _ (runs.asks_path _ _ _ _ _) e = omega (arith, e)
 alone_begin rules s _ _ _ _ (runs.asks_branch _ _ _ _ _) e = omega (arith, e)
 alone_begin rules s _ _ _ _ (runs.explains _ _ _ _ _) e = omega (arith, e)

@@ -1,9 +1,11 @@
 // The top call.
-ghost use Rattle.std.specs.Prelude.{ℕ, List, ◌≡◌, ◌≢◌, ◌≤◌, ◌⊎◌, map, string_bytes, option_map, None, Some};
+ghost use Rattle.std.specs.Prelude.{ℕ, List, ◌≡◌, ◌≢◌, ◌≤◌, ◌⊎◌, map, string_bytes, option_map, None, Some, IfOk};
 ghost use Rattle.command_line.specs.Forms.{makes, runs};
 ghost use Rattle.command_line.specs.FormValues.{settings_value};
 ghost use Rattle.command_line.specs.Words.{form_of};
 ghost use Rattle.bisim_spec.specs.declared.kind.Kind.{Kind};
+ghost use Rattle.graph_spec.specs.Graphs.{empty_graph};
+ghost use Rattle.triple_names.specs.Names.{no_names};
 ghost use Rattle.index_api.specs.IndexKinds.{kinds_of};
 ghost use Rattle.pathindex_core.specs.Engines.{IsSound, by_meaning};
 ghost use Rattle.script_interpreter.specs.EngineStates.{state_of, IsOpen, IsIn};
@@ -16,13 +18,14 @@ use crate::made::run_made;
 use crate::output::{show_refusal, show_usage};
 use crate::status::{Status, status_of};
 use command_line::{Form, Settings, read_words};
-use graph_load::{LoadError, load};
+use graph_load::{LoadError, load_named};
 use index_api::{Kind, PathIndex};
 use label_graph::Graph;
 use pathindex_core::Engine;
-use px_base::{Limits, Shelf, Sink};
+use px_base::{Limits, Memory, Shelf, Sink};
 use script_interpreter::{Printing, Stop, run_lines};
 use std::alloc::Global;
+use triple_names::Names;
 
 /// Carries out what the words ask for, and answers the exit status. The words are those after the
 /// program's name: `SCRIPT [--graph FILE] [--k N] [--without-one] [--without-fb]`, or `--make SEED`.
@@ -48,8 +51,8 @@ use std::alloc::Global;
 /// If the shelf is observable, the graph file loads, no line of the script is bad, no call fails and neither count of
 /// failed calls is full, the status is 0, 1 or 7. With a seed it is so if no write fails and the sink's count isn't
 /// full. At 5, 6 and 7 a prefix of what the run prints is written. O(b) for b bytes of both files, and what opening the
-/// engine and the commands cost (`Engine`); beside the engine it takes memory for a block of the script, its longest
-/// line, and what is gathered of the output.
+/// engine and the commands cost (`Engine`); beside the engine it takes memory for the numbers of terms and triples
+/// (`Names`), a block of the script, its longest line, and what is gathered of the output.
 pub fn run<B: PathIndex, H: Shelf, K: Sink>(
     alloc: Global,
     words: &[String],
@@ -105,6 +108,16 @@ fn run_words<B: PathIndex, H: Shelf, K: Sink>(
     }
 }
 
+/// The graph without nodes, whose terms and triples have no numbers.
+fn nothing_loaded(alloc: Global) -> Result<(Graph, Names), Memory>
+    ensures graph { IfOk result (λ r. r.0.graph ≡ empty_graph) }
+    ensures names { IfOk result (λ r. r.1.names ≡ no_names) }
+{
+    let graph = Graph::new(alloc)?;
+    let names = Names::new(alloc)?;
+    Ok((graph, names))
+}
+
 /// Loads the graph file, if one is named, and runs the script.
 fn run_settings<B: PathIndex, H: Shelf, K: Sink>(
     alloc: Global,
@@ -127,8 +140,8 @@ fn run_settings<B: PathIndex, H: Shelf, K: Sink>(
 {
     match settings.graph {
         Some(name) => run_loaded(alloc, settings, name, engine, shelf, sink),
-        None => match Graph::new(alloc) {
-            Ok(graph) => run_script(alloc, settings, graph, engine, shelf, sink),
+        None => match nothing_loaded(alloc) {
+            Ok((graph, names)) => run_script(alloc, settings, graph, names, engine, shelf, sink),
             Err(_) => Status::NoMemory,
         },
     }
@@ -156,8 +169,8 @@ fn run_loaded<B: PathIndex, H: Shelf, K: Sink>(
         (K.faults sink.old) (K.faults sink.new) (code_of result) }
     ensures files { H.files shelf.new ≡ H.files shelf.old }
 {
-    match load(alloc, shelf, name, &Limits::program()) {
-        Ok(graph) => run_script(alloc, settings, graph, engine, shelf, sink),
+    match load_named(alloc, shelf, name, &Limits::program()) {
+        Ok((graph, names)) => run_script(alloc, settings, graph, names, engine, shelf, sink),
         Err(LoadError::Syntax(line)) => show_refusal(alloc, line, "syntax", sink),
         Err(LoadError::Limit(line)) => show_refusal(alloc, line, "limit", sink),
         Err(LoadError::Missing) => Status::NoFile,
@@ -184,11 +197,12 @@ fn run_script<B: PathIndex, H: Shelf, K: Sink>(
     alloc: Global,
     settings: &Settings<'_>,
     graph: Graph,
+    names: Names,
     engine: &mut Engine<B>,
     shelf: &mut H,
     sink: &mut K,
 ) -> Status
-    requires begins { BeginsObservable (settings_value settings.now).graph (H.files shelf.old) graph.graph }
+    requires begins { BeginsObservable (settings_value settings.now).graph (H.files shelf.old) graph.graph names.names }
     requires closed { engine.old.opened ≡ None }
     requires sound { IsSound (by_meaning B.meaning engine.old) }
     requires level { settings.now.k ≤ 8 }
@@ -204,7 +218,7 @@ fn run_script<B: PathIndex, H: Shelf, K: Sink>(
     leave_out(engine, Kind::One, settings.without_one);
     leave_out(engine, Kind::Fb, settings.without_fb);
     match engine.open(graph, Limits::program(), settings.k) {
-        Ok(()) => run_open(alloc, settings, engine, shelf, sink),
+        Ok(()) => run_open(alloc, settings, engine, names, shelf, sink),
         Err(_) => Status::NoMemory,
     }
 }
@@ -214,14 +228,16 @@ fn run_open<B: PathIndex, H: Shelf, K: Sink>(
     alloc: Global,
     settings: &Settings<'_>,
     engine: &mut Engine<B>,
+    names: Names,
     shelf: &mut H,
     sink: &mut K,
 ) -> Status
-    requires begins { BeginsObservable (settings_value settings.now).graph (H.files shelf.old) (state_of B.meaning engine.old).graph }
+    requires begins { BeginsObservable (settings_value settings.now).graph (H.files shelf.old) (state_of B.meaning engine.old names.names).graph
+        names.names }
     requires ready { IsOpen (by_meaning B.meaning engine.old) }
     ensures sound { IsSound (by_meaning B.meaning engine.new) }
-    ensures does { (kinds : List Kind) → BeginsRun (state_of B.meaning engine.old).graph (kinds_for (settings_value settings.now) kinds)
-        settings.now.k (state_of B.meaning engine.old)
+    ensures does { (kinds : List Kind) → BeginsRun (state_of B.meaning engine.old names.names).graph names.names
+        (kinds_for (settings_value settings.now) kinds) settings.now.k (state_of B.meaning engine.old names.names)
         → RunsForm (runs (settings_value settings.now)) kinds (H.files shelf.old) (K.written sink.old) (K.written sink.new) (code_of result)
         (IsIn (by_meaning B.meaning engine.new)) }
     ensures status { HasStatus (runs (settings_value settings.now)) (H.files shelf.old) (H.faults shelf.old) (H.faults shelf.new) (K.faults sink.old)
@@ -231,7 +247,7 @@ fn run_open<B: PathIndex, H: Shelf, K: Sink>(
     ensures files { H.files shelf.new ≡ H.files shelf.old }
 {
     match shelf.open(settings.script) {
-        Ok(true) => match run_lines(alloc, engine, Printing::Whole, shelf, sink) {
+        Ok(true) => match run_lines(alloc, engine, names, Printing::Whole, shelf, sink) {
             Ok(ending) => status_of(ending),
             Err(Stop::Shelf) => Status::NoFile,
             Err(Stop::Sink) => Status::NoOutput,

@@ -9,8 +9,9 @@ use graph_update::{After, Neighbours};
 use px_base::{Memory, NodeId, Steps};
 use std::sync::ledger::Ledger;
 
-/// Lists the parents of a node in the graph after a change, replacing what the list held. O(p) for p parents,
-/// those among them that the change takes away; it is one step, and at most one for each of them; it takes 4 bytes a parent where the list has no capacity.
+/// Lists the parents of a node in the graph after a change, replacing what the list held. O(p) for p parents, those that
+/// the change takes away among them. It takes one step and at most one more for each of them, and 4 bytes a parent where
+/// the list has no capacity.
 pub fn read_parents<L: Ledger>(
     list: &mut Vec<NodeId>,
     after: &After<'_>,

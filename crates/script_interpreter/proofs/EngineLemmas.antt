@@ -19,6 +19,7 @@ use Rattle.index_api.specs.Meanings.{Meaning, IsBuilt, BeginsFull, IsViewStep, b
 use Rattle.index_api.specs.IndexKinds.{is_kind, has_kind, kinds_of, index_of, kept_view}
 use Rattle.pathindex_core.specs.Engines.{Opened, EngineSeen, EachBecomes, IsKeptFor, graph_in, level_in}
 use Rattle.pathindex_core.specs.Updates.{IsMoved, IsUpdated}
+use Rattle.triple_names.specs.Names.{Names}
 use Rattle.script_interpreter.specs.States.{BeginsRun, forgotten, left_out}
 use Rattle.script_interpreter.specs.Runs.{IsChanged}
 use Rattle.script_interpreter.specs.EngineStates.{state_in}
@@ -122,10 +123,11 @@ has_one o boxes all h =
     }
 
 -- the state in which a run begins, once the engine is open
-pub first_state : (g : Graph) (o : Opened) (olds news : List Meaning) → o.graph ≡ g → EachBecomes (λ a b. IsBuilt a b g o.k) olds news
-    → kinds_of news ≡ kinds_of olds → All (IsKeptFor o) news → BeginsRun g (kinds_of olds) o.k (state_in (record { boxes = news; opened = Some o }))
-first_state g o olds news same built kinds all = record {
+pub first_state : (n : Names) (g : Graph) (o : Opened) (olds news : List Meaning) → o.graph ≡ g → EachBecomes (λ a b. IsBuilt a b g o.k) olds news
+    → kinds_of news ≡ kinds_of olds → All (IsKeptFor o) news → BeginsRun g n (kinds_of olds) o.k (state_in (record { boxes = news; opened = Some o }) n)
+first_state n g o olds news same built kinds all = record {
   graph = same;
+  names = λ p. refl;
   kinds = kinds;
   level = refl;
   one = λ h. whole (has_one o news all h) (found (λ a b. IsBuilt a b g o.k) kind.One (λ a b r. r.kind) olds news (pairwise _ olds news built));
@@ -186,11 +188,12 @@ pub accepted_after : (c : List Step) (g h : Graph) (limits : Limits) → apply c
 accepted_after c g h limits e = all_after c g h limits (accepted_all c g h limits e).1
 
 -- what an accepted change makes of the state
-pub changed_state : (c : List Step) (o p : Opened) (h : Graph) (olds news : List Meaning) → apply c o.graph o.limits ≡ Ok h → p ≡ record o { graph = h }
-    → EachBecomes (IsUpdated c o.graph) olds news → (is_new c o.graph ≡ false → state_in (record { boxes = news; opened = Some p }) ≡ state_in (record { boxes = olds; opened = Some o }))
-    → kinds_of news ≡ kinds_of olds → IsChanged (state_in (record { boxes = olds; opened = Some o })) c h (state_in (record { boxes = news; opened = Some p }))
-changed_state c o p h olds news outcome is updated still kinds = record {
+pub changed_state : (n : Names) (c : List Step) (o p : Opened) (h : Graph) (olds news : List Meaning) → apply c o.graph o.limits ≡ Ok h → p ≡ record o { graph = h }
+    → EachBecomes (IsUpdated c o.graph) olds news → (is_new c o.graph ≡ false → state_in (record { boxes = news; opened = Some p }) n ≡ state_in (record { boxes = olds; opened = Some o }) n)
+    → kinds_of news ≡ kinds_of olds → IsChanged (state_in (record { boxes = olds; opened = Some o }) n) c h (state_in (record { boxes = news; opened = Some p }) n)
+changed_state n c o p h olds news outcome is updated still kinds = record {
   graph = ap (λ x. x.graph) is;
+  names = refl;
   kinds = kinds;
   level = ap (λ x. x.k) is;
   same = still;
@@ -235,14 +238,15 @@ found_without k (m ∷ ms) = by (found_without k ms) (is_kind k m.kind) (is_kind
     by rest false false e f = ap (λ b. cond b (Some m) (index_of (filter (λ x. not (is_kind k x.kind)) ms) kind.One)) f ∙ rest
 
 -- the state without an index of that kind
-pub forgotten_state : (k : Kind) (e f : EngineSeen) → f.opened ≡ e.opened → f.boxes ≡ filter (λ m. not (is_kind k m.kind)) e.boxes → state_in f ≡ forgotten k (state_in e)
-forgotten_state k e f opened boxes i = record {
+pub forgotten_state : (n : Names) (k : Kind) (e f : EngineSeen) → f.opened ≡ e.opened → f.boxes ≡ filter (λ m. not (is_kind k m.kind)) e.boxes → state_in f n ≡ forgotten k (state_in e n)
+forgotten_state n k e f opened boxes i = record {
   graph = graph_in (opened i);
   kept = record {
     kinds = (ap kinds_of boxes ∙ kinds_without k e.boxes) i;
     k = level_in (opened i);
     one = (ap one_in boxes ∙ ap (λ x. blocks_in (option_and_then (λ b. view_at b.views 0) x)) (found_without k e.boxes) ∙ split (is_kind k kind.One)) i;
   };
+  names = n;
 }
   where
     split : (t : Bool) → blocks_in (option_and_then (λ b. view_at b.views 0) (if t then None else index_of e.boxes kind.One)) ≡ (if t then [] else one_in e.boxes)

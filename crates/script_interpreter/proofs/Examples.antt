@@ -11,9 +11,13 @@ use Rattle.graph_spec.specs.Changes.{with_node}
 use Rattle.change_spec.specs.Steps.{Step, node, link, unlink, drop as drop_node, relabel, apply}
 use Rattle.graph_spec.specs.Words.{node_word}
 use Rattle.graph_spec.specs.ProgramLimits.{program_limits}
+use Rattle.triples_read.specs.declared.term.Term.TheVariants.{Iri}
+use Rattle.triples_read.specs.declared.term.Triple.{Triple}
+use Rattle.triple_names.specs.Names.{no_names}
+use Rattle.triple_names.specs.TripleChanges.{insert_steps}
 use Rattle.path_query.specs.Labels.{IsPlainLabel, SpellsLabel}
 use Rattle.script_interpreter.specs.LineTexts.{reply, bad_line}
-use Rattle.script_read.specs.Commands.{Command, change, begin, end as end_group, path, branch, why, check, extents, sizes, forget, IsSpelled, Asks, by_path, by_branch, by_why, by_check, NoCommand}
+use Rattle.script_read.specs.Commands.{Command, change, begin, end as end_group, insert, delete, path, branch, why, check, extents, sizes, forget, IsSpelled, Asks, by_path, by_branch, by_why, by_check, NoCommand}
 use Rattle.script_read.specs.FirstWords.{first_word}
 use Rattle.script_interpreter.specs.declared.group.Scope.TheVariants.{Line as OfLine, Group as OfGroup}
 use Rattle.script_interpreter.specs.declared.printing.Printing.TheVariants.{Whole, Brief}
@@ -27,7 +31,7 @@ use Rattle.script_interpreter.specs.Indexes.{ShowsAnswers, answered, ShowsExtent
 use Rattle.branch_query.specs.Queries.{Query}
 use Rattle.pathindex_core.specs.QueryAnswers.{IsAnswered}
 use Rattle.index_api.specs.declared.answers.How.TheVariants as how
-use Rattle.script_interpreter.specs.Runs.{Progress, Group, start, TakesLine, outside, begins, silent, adds, ends, IsBadIn, text_at_end, end_text, end_status, Makes, RunsLine, RunsLines, IsRun, PrintsPrefix, IsChanged, Obeys, command, changes, forgets, lacks}
+use Rattle.script_interpreter.specs.Runs.{Progress, Group, start, TakesLine, outside, begins, silent, adds, ends, IsBadIn, text_at_end, end_text, end_status, Makes, RunsLine, RunsLines, IsRun, PrintsPrefix, IsChanged, Obeys, command, changes, inserts, deletes, misses, forgets, lacks}
 use Rattle.script_interpreter.proofs.GroupLemmas.{not_in_group, too_many}
 
 plain_a : IsPlainLabel (codes "a")
@@ -44,18 +48,18 @@ asks_with line (by_branch via x) p b w c = b (ap (λ l. slice_index l 0) x.0)
 asks_with line (by_why v x) p b w c = w (ap (λ l. slice_index l 0) x.0)
 asks_with line (by_check nodes x) p b w c = c (ap (λ l. slice_index l 0) x.0)
 
--- a state in which the A(k)-family is kept, and no other index
+-- a state in which the A(k)-family is kept, and no other index, and no term has a number
 abbrev pub family_of : Graph → ℕ → State
-family_of g k = record { graph = g; kept = record { kinds = kind.A ∷ []; k = k; one = [] } }
+family_of g k = record { graph = g; kept = record { kinds = kind.A ∷ []; k = k; one = [] }; names = no_names }
 
 abbrev pub first_state : State
 first_state = family_of empty_graph 2
 
 -- a run may begin there, if that index is handed in, and not if another is
-begins_first : BeginsRun empty_graph (kind.A ∷ []) 2 first_state
-begins_first = record { graph = refl; kinds = refl; level = refl; one = λ h. absurd (true≢false (sym h)); none = λ _. refl }
+begins_first : BeginsRun empty_graph no_names (kind.A ∷ []) 2 first_state
+begins_first = record { graph = refl; names = λ p. refl; kinds = refl; level = refl; one = λ h. absurd (true≢false (sym h)); none = λ _. refl }
 
-not_there : BeginsRun empty_graph (kind.One ∷ []) 2 first_state → ⊥
+not_there : BeginsRun empty_graph no_names (kind.One ∷ []) 2 first_state → ⊥
 not_there h = (let same = h.kinds in cc)
 
 -- nothing is run, and that is a run
@@ -75,10 +79,10 @@ after_one : Progress
 after_one = record { state = family_of (with_node empty_graph (codes "a")) 2; group = None; refused = false; lines = 1; bytes = 7 }
 
 one_more : IsChanged first_state (node (codes "a") ∷ []) (with_node empty_graph (codes "a")) (family_of (with_node empty_graph (codes "a")) 2)
-one_more = record { graph = refl; kinds = refl; level = refl; same = λ e. absurd (true≢false e); step = λ e h. absurd (true≢false (sym h)); none = λ _. refl }
+one_more = record { graph = refl; names = refl; kinds = refl; level = refl; same = λ e. absurd (true≢false e); step = λ e h. absurd (true≢false (sym h)); none = λ _. refl }
 
 -- a change forgets no index
-kept_on : (c : List Step) (g : Graph) → IsChanged first_state c g (record { graph = g; kept = record { kinds = []; k = 2; one = [] } }) → ⊥
+kept_on : (c : List Step) (g : Graph) → IsChanged first_state c g (record { graph = g; kept = record { kinds = []; k = 2; one = [] }; names = no_names }) → ⊥
 kept_on c g h = (let same = h.kinds in cc)
 
 takes_one : RunsLine (rules_for Whole) (start first_state) (record { text = codes "node a"; end = 10 ∷ [] }) (codes "added " ++ node_word 0 ++ 10 ∷ []) after_one
@@ -109,6 +113,8 @@ no_label = (λ q. omega (arith, q), other)
     other (change (relabel u t)) h = omega (arith, ap length h.1)
     other begin h = omega (arith, ap (λ ws. slice_index (first ws) 0) h)
     other end_group h = omega (arith, ap (λ ws. slice_index (first ws) 0) h)
+    other (insert t) h = omega (arith, ap (λ l. slice_index l 0) h.0)
+    other (delete t) h = omega (arith, ap (λ l. slice_index l 0) h.0)
     other (path via e) h = omega (arith, ap (λ l. slice_index l 0) h.0.0)
     other (branch via q) h = omega (arith, ap (λ l. slice_index l 0) h.0.0)
     other (why v e) h = omega (arith, ap (λ l. slice_index l 0) h.0.0)
@@ -178,7 +184,7 @@ obeys_refused : Obeys (rules_for Whole) first_state (change (unlink 0 1)) (codes
 obeys_refused = changes (unlink 0 1) _ _ first_state (record { becomes = refl; printed_is = refl; refuses_is = refl })
 
 -- what is forgotten is kept no longer, and what isn't kept can't be forgotten
-forgets_a : Obeys (rules_for Whole) first_state (forget kind.A) (codes "ok\n") false (record { graph = empty_graph; kept = record { kinds = []; k = 2; one = [] } })
+forgets_a : Obeys (rules_for Whole) first_state (forget kind.A) (codes "ok\n") false (record { graph = empty_graph; kept = record { kinds = []; k = 2; one = [] }; names = no_names })
 forgets_a = forgets kind.A refl
 
 lacks_one : Obeys (rules_for Whole) first_state (forget kind.One) (codes "refused no-index\n") true first_state
@@ -222,7 +228,7 @@ brief_group c g h = refl
 brief_refused : (g : Graph) → reply Brief OfLine (drop_node 0 ∷ []) g (Err NoNode) ≡ codes "refused no-node\n"
 brief_refused g = refl
 
-brief_forgets : Obeys (rules_for Brief) first_state (forget kind.A) [] false (record { graph = empty_graph; kept = record { kinds = []; k = 2; one = [] } })
+brief_forgets : Obeys (rules_for Brief) first_state (forget kind.A) [] false (record { graph = empty_graph; kept = record { kinds = []; k = 2; one = [] }; names = no_names })
 brief_forgets = forgets kind.A refl
 
 brief_lacks : Obeys (rules_for Brief) first_state (forget kind.One) (codes "refused no-index\n") true first_state
@@ -244,7 +250,7 @@ both_printed = ((codes "added " ++ node_word 0 ++ 10 ∷ []) ++ (codes "added " 
 
 both_made : Makes (rules_for Whole) OfGroup first_state two_added both_printed false (family_of both 2)
 both_made = record {
-  becomes = record { graph = refl; kinds = refl; level = refl; same = λ e. absurd (true≢false e); step = λ e h. absurd (true≢false (sym h)); none = λ _. refl };
+  becomes = record { graph = refl; names = refl; kinds = refl; level = refl; same = λ e. absurd (true≢false e); step = λ e h. absurd (true≢false (sym h)); none = λ _. refl };
   printed_is = refl;
   refuses_is = refl;
 }
@@ -270,14 +276,34 @@ group_refused = record { becomes = refl; printed_is = refl; refuses_is = refl }
 -- an empty group is made, and leaves the state
 empty_made : Makes (rules_for Whole) OfGroup first_state [] (codes "ok\n") false first_state
 empty_made = record {
-  becomes = record { graph = refl; kinds = refl; level = refl; same = λ _. refl; step = λ e h. absurd (true≢false (sym e)); none = λ _. refl };
+  becomes = record { graph = refl; names = refl; kinds = refl; level = refl; same = λ _. refl; step = λ e h. absurd (true≢false (sym e)); none = λ _. refl };
   printed_is = refl;
   refuses_is = refl;
 }
 
--- a query may not stand in a group, nor may a group; nor an end outside
+-- an insert prints as a group does: of `<http://e/a> <http://e/p> <http://e/a>` a term and the triple are new
+abbrev looped : Triple
+looped = record { subject = Iri (codes "http://e/a"); predicate = codes "http://e/p"; object = Iri (codes "http://e/a") }
+
+insert_prints : (h : Graph) → reply Whole OfGroup (insert_steps no_names empty_graph looped) empty_graph (Ok h) ≡ both_printed
+insert_prints h = refl
+
+insert_brief : (g h : Graph) → reply Brief OfGroup (insert_steps no_names g looped) g (Ok h) ≡ []
+insert_brief g h = refl
+
+-- a delete of a triple that isn't there is refused, and that alone
+delete_missed : Obeys (rules_for Whole) first_state (delete looped) (codes "refused no-node\n") true first_state
+delete_missed = misses looped refl
+
+not_deleted : (text : List ℕ) (t : State) → ¬ Obeys (rules_for Whole) first_state (delete looped) text false t
+not_deleted text t (deletes _ c _ _ _ found m) = cc
+
+-- a query may not stand in a group, nor may an insert or a group; nor an end outside
 sizes_in_group : (g : Group) → IsBadIn program_limits (Some g) (codes "sizes")
 sizes_in_group g = not_in_group (codes "sizes") sizes refl (λ x e. cc) (λ e. cc)
+
+insert_in_group : (g : Group) (line : List ℕ) → IsSpelled line (insert looped) → IsBadIn program_limits (Some g) line
+insert_in_group g line h = not_in_group line (insert looped) h (λ x e. cc) (λ e. cc)
 
 group_in_group : (g : Group) → IsBadIn program_limits (Some g) (codes "begin")
 group_in_group g = not_in_group (codes "begin") begin refl (λ x e. cc) (λ e. cc)

@@ -9,7 +9,7 @@ use Rattle.graph_spec.specs.declared.refusal.Refusal.{Refusal}
 use Rattle.graph_spec.specs.declared.refusal.Refusal.TheVariants.{Limit}
 use Rattle.graph_spec.specs.Graphs.{Graph}
 use Rattle.change_spec.specs.Steps.{Step, node, link, unlink, drop, relabel, apply, MOST_STEPS}
-use Rattle.script_read.specs.Commands.{Command, change, begin, end, path, branch, why, check, extents, sizes, forget, IsQuiet, IsSpelled, PassesLimit, SpellsNothing}
+use Rattle.script_read.specs.Commands.{Command, change, begin, end, insert, delete, path, branch, why, check, extents, sizes, forget, IsQuiet, IsSpelled, PassesLimit, SpellsNothing}
 use Rattle.script_read.proofs.CommandLemmas.{keyword, begins, lead, no_query, silent, free, node_free, relabel_free, quiet_free}
 use Rattle.script_interpreter.specs.declared.group.Scope.{Scope}
 use Rattle.script_interpreter.specs.declared.group.Scope.TheVariants.{Group as Lines}
@@ -72,14 +72,14 @@ refused_makes rules scope s c d printed refuses t r e f m = record {
 }
 
 -- the change of the steps that are kept is that of the whole group
-pub kept_changed : (s : State) (steps kept : List Step) (old : Gathered) (t : State) (new : Gathered) → kept ≡ take KEPT_STEPS steps → Changed Lines s kept old t new → Changed Lines s steps old t new
-kept_changed s steps kept old t new k c =
+pub kept_changed : (s : State) (steps kept : List Step) (old : Gathered) (refuses : Bool) (t : State) (new : Gathered) → kept ≡ take KEPT_STEPS steps → Changed Lines s kept old refuses t new
+    → Changed Lines s steps old refuses t new
+kept_changed s steps kept old refuses t new k c =
     elim (few_or_many (length steps)) [
-      | inl few ↦ subst (λ x. Changed Lines s x old t new) (k ∙ few_kept steps (omega (arith, few))) c
+      | inl few ↦ subst (λ x. Changed Lines s x old refuses t new) (k ∙ few_kept steps (omega (arith, few))) c
       | inr many ↦ record {
         printed = c.printed;
-        refuses = c.refuses;
-        makes = refused_makes (rules_for old.printing) Lines s kept steps c.printed c.refuses t Limit
+        makes = refused_makes (rules_for old.printing) Lines s kept steps c.printed refuses t Limit
             (too_many kept s.graph program_limits (subst (λ x. 1024 < length x) (sym k) (many_kept steps many))) (too_many steps s.graph program_limits many) c.makes;
         gathered_is = c.gathered_is;
       }
@@ -97,8 +97,9 @@ adds_taken s number line g x old h = record { printed = []; refuses = false; tak
 pub begins_taken : (s : State) (number : ℕ) (line : List ℕ) (old : Gathered) → IsSpelled line begin → IsTaken s number line None old s (Some (record { steps = []; line = number })) old
 begins_taken s number line old h = record { printed = []; refuses = false; takes = runs.begins h; gathered_is = same_text old }
 
-pub ends_taken : (s : State) (number : ℕ) (line : List ℕ) (g : Group) (old : Gathered) (t : State) (new : Gathered) → IsSpelled line end → Changed Lines s g.steps old t new → IsTaken s number line (Some g) old t None new
-ends_taken s number line g old t new h c = record { printed = c.printed; refuses = c.refuses; takes = runs.ends g c.printed c.refuses t h c.makes; gathered_is = c.gathered_is }
+pub ends_taken : (s : State) (number : ℕ) (line : List ℕ) (g : Group) (old : Gathered) (refuses : Bool) (t : State) (new : Gathered) → IsSpelled line end → Changed Lines s g.steps old refuses t new
+    → IsTaken s number line (Some g) old t None new
+ends_taken s number line g old refuses t new h c = record { printed = c.printed; refuses = refuses; takes = runs.ends g c.printed refuses t h c.makes; gathered_is = c.gathered_is }
 
 -- two commands of one line begin with one word
 pub one_word : (line : List ℕ) (c d : Command) → IsSpelled line c → IsSpelled line d → keyword c ≡ keyword d
@@ -113,6 +114,8 @@ not_in_group line c h n e (inr (inl k)) = apart c h n k.0 (one_word line c (chan
     apart (change y) h n x w k = n y refl
     apart begin h n x w k = (no_query x).no_begin (sym (ap lead w))
     apart end h n x w k = (no_query x).no_end (sym (ap lead w))
+    apart (insert y) h n x w k = (no_query x).no_insert (sym (ap lead w))
+    apart (delete y) h n x w k = (no_query x).no_delete (sym (ap lead w))
     apart (path v f) h n x w k = (no_query x).no_path (sym (ap lead w))
     apart (branch v f) h n x w k = (no_query x).no_branch (sym (ap lead w))
     apart (why v f) h n x w k = (no_query x).no_why (sym (ap lead w))

@@ -1,6 +1,8 @@
 pub mod EngineLemmas
 pub mod EngineCalls
 pub mod WalkCalls
+pub mod TripleCalls
+pub mod TripleLaws
 pub mod GroupLemmas
 pub mod KeptGroups
 pub mod TakenLemmas

@@ -2,16 +2,17 @@
 use Rattle.std.specs.Prelude.{◌≡◌, Some, IsSome}
 use Rattle.graph_spec.specs.ProgramLimits.{program_limits}
 use Rattle.index_api.specs.Meanings.{Meaning}
+use Rattle.triple_names.specs.Names.{Names}
 use Rattle.pathindex_core.specs.Engines.{Opened, EngineOf, EngineSeen, IsSound, by_meaning, graph_in, kept_in}
 use Rattle.script_interpreter.specs.States.{State}
 
--- the graph and the indexes of the engine
-abbrev pub state_in : EngineSeen → State
-state_in e = record { graph = graph_in e.opened; kept = kept_in e }
+-- the graph and the indexes of the engine, and these numbers of terms and triples
+abbrev pub state_in : EngineSeen → Names → State
+state_in e n = record { graph = graph_in e.opened; kept = kept_in e; names = n }
 
 -- the same of an engine, by what its indexes mean
-abbrev pub state_of : {B : Type 0} → (B → Meaning) → EngineOf B → State
-state_of meaning e = state_in (by_meaning meaning e)
+abbrev pub state_of : {B : Type 0} → (B → Meaning) → EngineOf B → Names → State
+state_of meaning e n = state_in (by_meaning meaning e) n
 
 -- the engine is open with the limits of the program, and its indexes fit its graph
 pub record IsOpen (e : EngineSeen) : Type 0 where
@@ -23,4 +24,5 @@ pub record IsOpen (e : EngineSeen) : Type 0 where
 -- the engine is open, and has the graph and the indexes of the state
 pub record IsIn (e : EngineSeen) (s : State) : Type 0 where
   pub is_open : IsSome e.opened
-  pub state : state_in e ≡ s
+  pub graph : graph_in e.opened ≡ s.graph
+  pub kept : kept_in e ≡ s.kept

@@ -37,10 +37,9 @@ IsAlone begin = ⊥
 IsAlone end = ⊥
 IsAlone c = ⊤
 
--- a change was made or refused, and what it prints is gathered
-pub record Changed (scope : Scope) (s : State) (c : List Step) (old : Gathered) (t : State) (new : Gathered) : Type 0 where
+-- a change was made, or refused, and what it prints is gathered
+pub record Changed (scope : Scope) (s : State) (c : List Step) (old : Gathered) (refuses : Bool) (t : State) (new : Gathered) : Type 0 where
   pub printed : List ℕ
-  pub refuses : Bool
   pub makes : Makes (rules_for old.printing) scope s c printed refuses t
   pub gathered_is : new ≡ with_printed old printed refuses
 

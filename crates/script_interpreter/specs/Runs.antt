@@ -3,7 +3,7 @@ use Rattle.std.specs.Prelude.{ℕ, ◌+◌, ◌≡◌, ◌≤◌, ◌⊎◌, Boo
 use Rattle.px_base.specs.declared.lines.TheConstants.{LINE_BYTES, SCRIPT_BYTES}
 use Rattle.script_interpreter.specs.Rules.{Rules, if_whole}
 use Rattle.graph_spec.specs.declared.refusal.Refusal.{Refusal}
-use Rattle.graph_spec.specs.declared.refusal.Refusal.TheVariants.{Limit, NoIndex}
+use Rattle.graph_spec.specs.declared.refusal.Refusal.TheVariants.{NoNode, Limit, NoIndex}
 use Rattle.graph_spec.specs.Lines.{Line, cut}
 use Rattle.graph_spec.specs.Graphs.{Graph}
 use Rattle.graph_spec.specs.declared.limits.Limits.{Limits}
@@ -15,18 +15,22 @@ use Rattle.bisim_spec.specs.declared.kind.Kind.TheVariants.{One}
 use Rattle.path_spec.specs.Trees.{Expr}
 use Rattle.branch_spec.specs.Trees.{Branch}
 use Rattle.branch_query.specs.Queries as query
+use Rattle.triples_read.specs.declared.term.Triple.{Triple}
+use Rattle.triple_names.specs.Names.{AreSameNames}
+use Rattle.triple_names.specs.TripleChanges.{insert_steps, placed_in, noted, delete_change}
 use Rattle.script_interpreter.specs.declared.group.Scope.{Scope}
 use Rattle.script_interpreter.specs.declared.group.Scope.TheVariants.{Line as OfLine, Group as OfGroup}
 use Rattle.script_interpreter.specs.LineTexts.{reply, refused_line, ok_line, bad_line}
 use Rattle.script_interpreter.specs.States.{State, keeps, forgotten}
 use Rattle.script_interpreter.specs.Indexes.{ShowsAnswers, ShowsExtents, ShowsSizes}
 use Rattle.script_interpreter.specs.Walks.{ShowsWhy, ShowsCheck}
-use Rattle.script_read.specs.Commands.{Command, change, begin, end, path, branch, why, check, extents, sizes, forget, IsQuiet, IsSpelled, PassesLimit, SpellsNothing}
+use Rattle.script_read.specs.Commands.{Command, change, begin, end, insert, delete, path, branch, why, check, extents, sizes, forget, IsQuiet, IsSpelled, PassesLimit, SpellsNothing}
 
--- An accepted change leads from the state s to t, whose graph is h. The same indexes are kept. A change whose steps are all idle
--- leaves the whole state. Each other one moves the blocks of the 1-index, if it is kept, by one step.
+-- An accepted change leads from the state s to t, whose graph is h. The same indexes are kept, and no number of a term or a triple
+-- changes. A change whose steps are all idle leaves the whole state. Each other one moves the blocks of the 1-index, if it is kept, by one step.
 pub record IsChanged (s : State) (c : List Step) (h : Graph) (t : State) : Type 0 where
   pub graph : t.graph ≡ h
+  pub names : t.names ≡ s.names
   pub kinds : t.kept.kinds ≡ s.kept.kinds
   pub level : t.kept.k ≡ s.kept.k
   pub same : is_new c s.graph ≡ false → t ≡ s
@@ -44,9 +48,19 @@ pub record Makes (rules : Rules) (scope : Scope) (s : State) (c : List Step) (pr
   pub printed_is : printed ≡ reply rules.printing scope c s.graph (apply c s.graph rules.limits)
   pub refuses_is : refuses ≡ is_err (apply c s.graph rules.limits)
 
+-- An insert of a triple may do so too. Its steps are made as those of a group are. If they are accepted, the parts of the triple have
+-- the numbers of their nodes from then on; no other number changes.
+pub record Inserts (rules : Rules) (s : State) (x : Triple) (printed : List ℕ) (refuses : Bool) (t : State) : Type 0 where
+  pub makes : Makes rules OfGroup s (insert_steps s.names s.graph x) printed refuses (record t { names = s.names })
+  pub names : AreSameNames t.names (if refuses then s.names else noted x (placed_in s.names s.graph x) s.names)
+
 -- A command in a state may print this, which is a refusal or not, and lead to that state.
 pub data Obeys (rules : Rules) (s : State) : Command → List ℕ → Bool → State → Type 0 where
   changes : (x : Step) (printed : List ℕ) (refuses : Bool) (t : State) → Makes rules OfLine s (x ∷ []) printed refuses t → Obeys rules s (change x) printed refuses t
+  inserts : (x : Triple) (printed : List ℕ) (refuses : Bool) (t : State) → Inserts rules s x printed refuses t → Obeys rules s (insert x) printed refuses t
+  deletes : (x : Triple) (c : List Step) (printed : List ℕ) (refuses : Bool) (t : State) → delete_change s.names s.graph x ≡ Some c → Makes rules OfGroup s c printed refuses t
+      → Obeys rules s (delete x) printed refuses t
+  misses : (x : Triple) → delete_change s.names s.graph x ≡ None → Obeys rules s (delete x) (refused_line NoNode) true s
   asks_path : (via : Via) (e : Expr) (text : List ℕ) (refuses : Bool) → ShowsAnswers rules.printing s (query.path e) via text refuses → Obeys rules s (path via e) text refuses s
   asks_branch : (via : Via) (q : Branch) (text : List ℕ) (refuses : Bool) → ShowsAnswers rules.printing s (query.branch q) via text refuses → Obeys rules s (branch via q) text refuses s
   explains : (v : ℕ) (e : Expr) (text : List ℕ) (refuses : Bool) → ShowsWhy s v e text refuses → Obeys rules s (why v e) text refuses s

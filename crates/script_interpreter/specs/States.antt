@@ -8,21 +8,25 @@ use Rattle.bisim_spec.specs.declared.kind.Kind.TheVariants.{One}
 use Rattle.bisim_spec.specs.Bisimilarity.{Bisim}
 use Rattle.bisim_spec.specs.Partitions.{Agrees}
 use Rattle.index_api.specs.IndexKinds.{KeptIndexes, is_kind, has_kind}
+use Rattle.triple_names.specs.Names.{Names, AreSameNames}
 
 -- what commands change or ask
 pub record State : Type 0 where
   pub graph : Graph
   -- the indexes that are kept: their kinds, the highest level of the A(k)-family, and the blocks of the 1-index
   pub kept : KeptIndexes
+  -- the numbers of the nodes of terms and triples, by which triples are inserted and deleted
+  pub names : Names
 
 -- whether an index of that kind is kept
 abbrev pub keeps : State → Kind → Bool
 keeps s kind = has_kind s.kept.kinds kind
 
--- A state with which a run begins: this graph, and indexes of these kinds with levels up to k. The blocks of the
--- 1-index, if it is kept, are full bisimilarity.
-pub record BeginsRun (g : Graph) (given : List Kind) (k : ℕ) (s : State) : Type 0 where
+-- A state with which a run begins: this graph, these numbers of terms and triples, and indexes of these kinds with levels up to k.
+-- The blocks of the 1-index, if it is kept, are full bisimilarity.
+pub record BeginsRun (g : Graph) (n : Names) (given : List Kind) (k : ℕ) (s : State) : Type 0 where
   pub graph : s.graph ≡ g
+  pub names : AreSameNames s.names n
   pub kinds : s.kept.kinds ≡ given
   pub level : s.kept.k ≡ k
   pub one : IsTrue (keeps s One) → Agrees (shape_of g) s.kept.one (Bisim (shape_of g))

@@ -1,6 +1,6 @@
 // Carrying out the lines of a script.
 ghost use Rattle.std.specs.Prelude.{◌≡◌, ◌≢◌, ◌<◌, ◌↔◌, ℕ, List, Option, Some};
-ghost use Rattle.std.specs.Prelude.{None, Ok, Err, IfOk, IfSome, IfNone, OnOk, OnErr, IsTrue, IsSome};
+ghost use Rattle.std.specs.Prelude.{None, Ok, Err, IfOk, IfSome, IfNone, OnOk, OnErr, IsTrue, IsSome, not};
 ghost use Rattle.graph_spec.specs.Graphs.{is_live};
 ghost use Rattle.graph_spec.specs.Shapes.{shape_of};
 ghost use Rattle.change_spec.specs.Steps.{Step as Value_of_step};
@@ -12,6 +12,7 @@ ghost use Rattle.script_read.specs.Commands.{extents as listing, sizes as measur
 ghost use Rattle.script_read.specs.ReadLines.{command_of, ReadsCommand};
 ghost use Rattle.script_read.specs.Commands.{IsSpelled};
 ghost use Rattle.graph_spec.specs.ProgramLimits.{program_limits};
+ghost use Rattle.triple_names.specs.Names.{Names as Numbers};
 ghost use Rattle.pathindex_core.specs.Engines.{by_meaning};
 ghost use Rattle.script_interpreter.specs.EngineStates.{state_of, IsOpen};
 ghost use Rattle.script_interpreter.specs.States.{State};
@@ -20,20 +21,22 @@ ghost use Rattle.script_interpreter.specs.RunSteps.{query_command, IsAlone, Chan
 ghost use Rattle.script_interpreter.specs.Runs.{Group, with_step, StandsInGroup};
 ghost use Rattle.script_interpreter.specs.OpenGroups.{IsKeptAs};
 
+use crate::changes::{change, delete, insert, make};
 use crate::group::{OpenGroup, Scope};
 use crate::output::Output;
 use branch_query::Query;
 use extent_report::{answer_text, walk_text};
-use graph_update::{Change, Step};
+use graph_update::Step;
 use index_api::{Kind, PathIndex, Via};
 use label_graph::Graph;
 use path_query::PathExpr;
-use pathindex_core::{AskError, Engine, UpdateError};
+use pathindex_core::{AskError, Engine};
 use px_base::{Limits, Memory, NodeId, Refusal, Steps};
 use script_read::{Command, ScriptError, read};
 use std::alloc::Global;
 use std::marker::Brand;
 use std::sync::ledger::{Blank, Ledger};
+use triple_names::Names;
 use walk_check::holds;
 use walk_proof::{Walk, find};
 
@@ -44,49 +47,6 @@ pub(crate) enum Outcome {
     Done,
     /// The line is no command, and neither blank nor a comment.
     Bad,
-}
-
-/// Makes a change if it is accepted, and gathers what that prints.
-fn make<B: PathIndex>(
-    alloc: Global,
-    engine: &mut Engine<B>,
-    change: Change,
-    scope: Scope,
-    output: &mut Output,
-) -> Result<(), Memory>
-    requires ready { IsOpen (by_meaning B.meaning engine.old) }
-    ensures ready { IsOpen (by_meaning B.meaning engine.new) }
-    ensures ok { OnOk result (Changed scope (state_of B.meaning engine.old) change output.old (state_of B.meaning engine.new) output.new) }
-    ensures err { OnErr result (output.new ≡ output.old) }
-{
-    // Called for its contract, here and below: the numbers are few.
-    let _known = engine.graph().created();
-    match engine.update(alloc, change) {
-        Ok(applied) => {
-            let _known = engine.graph().created();
-            output.push_applied(applied, scope)
-        }
-        Err(UpdateError::Refused(refusal)) => output.refuse(refusal),
-        Err(UpdateError::Memory) => Err(Memory),
-    }
-}
-
-/// Makes a change of one step, which is a line of its own.
-fn change<B: PathIndex>(
-    alloc: Global,
-    engine: &mut Engine<B>,
-    step: Step,
-    output: &mut Output,
-) -> Result<(), Memory>
-    requires ready { IsOpen (by_meaning B.meaning engine.old) }
-    ensures ready { IsOpen (by_meaning B.meaning engine.new) }
-    ensures ok { OnOk result (Obeyed (state_of B.meaning engine.old) (changing (step_of step)) output.old (state_of B.meaning engine.new) output.new) }
-    ensures err { OnErr result (output.new ≡ output.old) }
-{
-    match Change::one(alloc, step) {
-        Ok(change) => make(alloc, engine, change, Scope::Line, output),
-        Err(_) => Err(Memory),
-    }
 }
 
 /// Gathers the answers of a query, asked through an index or of the graph itself.
@@ -100,8 +60,8 @@ fn ask<B: PathIndex, L: Ledger>(
 ) -> Result<(), Memory>
     requires ready { IsOpen (by_meaning B.meaning engine.old) }
     ensures ready { IsOpen (by_meaning B.meaning engine.new) }
-    ensures ok { OnOk result (Obeyed (state_of B.meaning engine.old) (query_command via (query_of query.now)) output.old
-        (state_of B.meaning engine.new) output.new) }
+    ensures ok { (n : Numbers) → OnOk result (Obeyed (state_of B.meaning engine.old n) (query_command via (query_of query.now)) output.old
+        (state_of B.meaning engine.new n) output.new) }
     ensures err { OnErr result (output.new ≡ output.old) }
 {
     match engine.ask(alloc, via, query, steps) {
@@ -147,7 +107,8 @@ fn explain<B: PathIndex, L: Ledger>(
     steps: &mut Steps<L>,
 ) -> Result<(), Memory>
     requires ready { IsOpen (by_meaning B.meaning engine.now) }
-    ensures ok { OnOk result (Obeyed (state_of B.meaning engine.now) (asking_why node expr.now) output.old (state_of B.meaning engine.now) output.new) }
+    ensures ok { (n : Numbers) → OnOk result (Obeyed (state_of B.meaning engine.now n) (asking_why node expr.now) output.old
+        (state_of B.meaning engine.now n) output.new) }
     ensures err { OnErr result (output.new ≡ output.old) }
 {
     let graph = engine.graph();
@@ -181,7 +142,8 @@ fn check<B: PathIndex>(
     output: &mut Output,
 ) -> Result<(), Memory>
     requires ready { IsOpen (by_meaning B.meaning engine.now) }
-    ensures ok { OnOk result (Obeyed (state_of B.meaning engine.now) (checking walk.now expr.now) output.old (state_of B.meaning engine.now) output.new) }
+    ensures ok { (n : Numbers) → OnOk result (Obeyed (state_of B.meaning engine.now n) (checking walk.now expr.now) output.old
+        (state_of B.meaning engine.now n) output.new) }
     ensures err { OnErr result (output.new ≡ output.old) }
 {
     let right = shows_last(alloc, engine.graph(), walk, expr)?;
@@ -203,7 +165,8 @@ fn list_index<B: PathIndex, L: Ledger>(
     requires ready { IsOpen (by_meaning B.meaning engine.old) }
     requires index { via ≢ Data }
     ensures ready { IsOpen (by_meaning B.meaning engine.new) }
-    ensures ok { OnOk result (Obeyed (state_of B.meaning engine.old) (listing via) output.old (state_of B.meaning engine.new) output.new) }
+    ensures ok { (n : Numbers) → OnOk result (Obeyed (state_of B.meaning engine.old n) (listing via) output.old
+        (state_of B.meaning engine.new n) output.new) }
     ensures err { OnErr result (output.new ≡ output.old) }
 {
     match engine.extents(alloc, via, steps) {
@@ -223,7 +186,8 @@ fn list<B: PathIndex, L: Ledger>(
 ) -> Result<(), Memory>
     requires ready { IsOpen (by_meaning B.meaning engine.old) }
     ensures ready { IsOpen (by_meaning B.meaning engine.new) }
-    ensures ok { OnOk result (Obeyed (state_of B.meaning engine.old) (listing via) output.old (state_of B.meaning engine.new) output.new) }
+    ensures ok { (n : Numbers) → OnOk result (Obeyed (state_of B.meaning engine.old n) (listing via) output.old
+        (state_of B.meaning engine.new n) output.new) }
     ensures err { OnErr result (output.new ≡ output.old) }
 {
     match via {
@@ -241,7 +205,8 @@ fn measure<B: PathIndex, L: Ledger>(
 ) -> Result<(), Memory>
     requires ready { IsOpen (by_meaning B.meaning engine.old) }
     ensures ready { IsOpen (by_meaning B.meaning engine.new) }
-    ensures ok { OnOk result (Obeyed (state_of B.meaning engine.old) measuring output.old (state_of B.meaning engine.new) output.new) }
+    ensures ok { (n : Numbers) → OnOk result (Obeyed (state_of B.meaning engine.old n) measuring output.old
+        (state_of B.meaning engine.new n) output.new) }
     ensures err { OnErr result (output.new ≡ output.old) }
 {
     let text = engine.sizes(alloc, steps)?;
@@ -256,7 +221,8 @@ fn forget<B: PathIndex>(
 ) -> Result<(), Memory>
     requires ready { IsOpen (by_meaning B.meaning engine.old) }
     ensures ready { IsOpen (by_meaning B.meaning engine.new) }
-    ensures ok { OnOk result (Obeyed (state_of B.meaning engine.old) (forgetting kind) output.old (state_of B.meaning engine.new) output.new) }
+    ensures ok { (n : Numbers) → OnOk result (Obeyed (state_of B.meaning engine.old n) (forgetting kind) output.old
+        (state_of B.meaning engine.new n) output.new) }
     ensures err { OnErr result (output.new ≡ output.old) }
 {
     match engine.forget(kind) {
@@ -269,6 +235,7 @@ fn forget<B: PathIndex>(
 fn obey<B: PathIndex, L: Ledger>(
     alloc: Global,
     engine: &mut Engine<B>,
+    names: &mut Names,
     command: Command,
     output: &mut Output,
     blank: Blank,
@@ -279,7 +246,8 @@ fn obey<B: PathIndex, L: Ledger>(
     requires alone { IsAlone (command_of command) }
     requires ready { IsOpen (by_meaning B.meaning engine.old) }
     ensures ready { IsOpen (by_meaning B.meaning engine.new) }
-    ensures ok { OnOk result (Obeyed (state_of B.meaning engine.old) (command_of command) output.old (state_of B.meaning engine.new) output.new) }
+    ensures ok { OnOk result (Obeyed (state_of B.meaning engine.old names.old.names) (command_of command) output.old
+        (state_of B.meaning engine.new names.new.names) output.new) }
     ensures err { OnErr result (output.new ≡ output.old) }
 {
     let mut steps = Steps::<L>::new(blank);
@@ -291,6 +259,8 @@ fn obey<B: PathIndex, L: Ledger>(
         Command::Relabel(node, label) => change(alloc, engine, Step::Relabel(node, label), output),
         Command::Begin => unreachable!(),
         Command::End => unreachable!(),
+        Command::Insert(triple) => insert(alloc, engine, names, triple, output),
+        Command::Delete(triple) => delete(alloc, engine, names, &triple, output),
         Command::Path(via, expr) => {
             ask(alloc, engine, via, &Query::Path(&expr), output, &mut steps)
         }
@@ -339,6 +309,8 @@ fn step(command: Command) -> Option<Step>
         Command::Relabel(node, label) => Some(Step::Relabel(node, label)),
         Command::Begin => None,
         Command::End => None,
+        Command::Insert(_) => None,
+        Command::Delete(_) => None,
         Command::Path(_, _) => None,
         Command::Branch(_, _) => None,
         Command::Why(_, _) => None,
@@ -353,6 +325,7 @@ fn step(command: Command) -> Option<Step>
 fn take_command<B: PathIndex>(
     alloc: Global,
     engine: &mut Engine<B>,
+    names: &mut Names,
     number: u32,
     command: Command,
     group: &mut Option<OpenGroup>,
@@ -363,7 +336,8 @@ fn take_command<B: PathIndex>(
     ensures ready { IsOpen (by_meaning B.meaning engine.new) }
     ensures ok { IfOk result (λ outcome. (line : List ℕ) → ReadsCommand program_limits line (Ok (Some command))
         → (left : Option Group) × IsKeptAs left group.new
-        × LineComes (state_of B.meaning engine.old) number line None output.old outcome (state_of B.meaning engine.new) left output.new) }
+        × LineComes (state_of B.meaning engine.old names.old.names) number line None output.old outcome
+        (state_of B.meaning engine.new names.new.names) left output.new) }
     ensures err { OnErr result (output.new ≡ output.old) }
 {
     if is_begin(&command) {
@@ -372,7 +346,7 @@ fn take_command<B: PathIndex>(
     } else if is_end(&command) {
         Ok(Outcome::Bad)
     } else {
-        obey::<B, Brand>(alloc, engine, command, output, Blank::new(1))?;
+        obey::<B, Brand>(alloc, engine, names, command, output, Blank::new(1))?;
         Ok(Outcome::Done)
     }
 }
@@ -397,6 +371,7 @@ fn fail_outside(error: ScriptError, output: &mut Output) -> Result<Outcome, Memo
 fn take_outside<B: PathIndex>(
     alloc: Global,
     engine: &mut Engine<B>,
+    names: &mut Names,
     number: u32,
     read: Result<Option<Command>, ScriptError>,
     group: &mut Option<OpenGroup>,
@@ -407,28 +382,29 @@ fn take_outside<B: PathIndex>(
     ensures ready { IsOpen (by_meaning B.meaning engine.new) }
     ensures ok { IfOk result (λ outcome. (line : List ℕ) → ReadsCommand program_limits line read
         → (left : Option Group) × IsKeptAs left group.new
-        × LineComes (state_of B.meaning engine.old) number line None output.old outcome (state_of B.meaning engine.new) left output.new) }
+        × LineComes (state_of B.meaning engine.old names.old.names) number line None output.old outcome
+        (state_of B.meaning engine.new names.new.names) left output.new) }
     ensures err { OnErr result (output.new ≡ output.old) }
 {
     match read {
-        Ok(Some(command)) => take_command(alloc, engine, number, command, group, output),
+        Ok(Some(command)) => take_command(alloc, engine, names, number, command, group, output),
         Ok(None) => Ok(Outcome::Done),
         Err(error) => fail_outside(error, output),
     }
 }
 
-/// Makes the change of a group that ends.
+/// Makes the change of a group that ends, and tells whether it is accepted.
 fn end<B: PathIndex>(
     alloc: Global,
     engine: &mut Engine<B>,
     group: &mut Option<OpenGroup>,
     output: &mut Output,
-) -> Result<(), Memory>
+) -> Result<bool, Memory>
     requires ready { IsOpen (by_meaning B.meaning engine.old) }
     requires some { IsSome group.old }
     ensures ready { IsOpen (by_meaning B.meaning engine.new) }
-    ensures ok { OnOk result ((g : Group) → IsKeptAs (Some g) group.old
-        → Changed Scope.Group (state_of B.meaning engine.old) g.steps output.old (state_of B.meaning engine.new) output.new) }
+    ensures ok { (n : Numbers) → IfOk result (λ accepted. (g : Group) → IsKeptAs (Some g) group.old
+        → Changed Scope.Group (state_of B.meaning engine.old n) g.steps output.old (not accepted) (state_of B.meaning engine.new n) output.new) }
     ensures ended { OnOk result (group.new ≡ None) }
     ensures err { OnErr result (output.new ≡ output.old) }
 {
@@ -460,9 +436,9 @@ fn take_inner<B: PathIndex>(
     requires ready { IsOpen (by_meaning B.meaning engine.old) }
     requires some { IsSome group.old }
     ensures ready { IsOpen (by_meaning B.meaning engine.new) }
-    ensures ok { IfOk result (λ outcome. (number : ℕ) (line : List ℕ) (g : Group) → IsSpelled line (command_of command) → IsKeptAs (Some g) group.old
-        → (left : Option Group) × IsKeptAs left group.new
-        × LineComes (state_of B.meaning engine.old) number line (Some g) output.old outcome (state_of B.meaning engine.new) left output.new) }
+    ensures ok { (n : Numbers) → IfOk result (λ outcome. (number : ℕ) (line : List ℕ) (g : Group) → IsSpelled line (command_of command)
+        → IsKeptAs (Some g) group.old → (left : Option Group) × IsKeptAs left group.new
+        × LineComes (state_of B.meaning engine.old n) number line (Some g) output.old outcome (state_of B.meaning engine.new n) left output.new) }
     ensures err { OnErr result (output.new ≡ output.old) }
 {
     if is_end(&command) {
@@ -501,9 +477,9 @@ fn take_inside<B: PathIndex>(
     requires ready { IsOpen (by_meaning B.meaning engine.old) }
     requires some { IsSome group.old }
     ensures ready { IsOpen (by_meaning B.meaning engine.new) }
-    ensures ok { IfOk result (λ outcome. (number : ℕ) (line : List ℕ) (g : Group) → ReadsCommand program_limits line read → IsKeptAs (Some g) group.old
-        → (left : Option Group) × IsKeptAs left group.new
-        × LineComes (state_of B.meaning engine.old) number line (Some g) output.old outcome (state_of B.meaning engine.new) left output.new) }
+    ensures ok { (n : Numbers) → IfOk result (λ outcome. (number : ℕ) (line : List ℕ) (g : Group) → ReadsCommand program_limits line read
+        → IsKeptAs (Some g) group.old → (left : Option Group) × IsKeptAs left group.new
+        × LineComes (state_of B.meaning engine.old n) number line (Some g) output.old outcome (state_of B.meaning engine.new n) left output.new) }
     ensures err { OnErr result (output.new ≡ output.old) }
 {
     match read {
@@ -517,6 +493,7 @@ fn take_inside<B: PathIndex>(
 pub(crate) fn take<B: PathIndex>(
     alloc: Global,
     engine: &mut Engine<B>,
+    names: &mut Names,
     number: u32,
     line: &[u8],
     group: &mut Option<OpenGroup>,
@@ -526,13 +503,14 @@ pub(crate) fn take<B: PathIndex>(
     ensures ready { IsOpen (by_meaning B.meaning engine.new) }
     ensures ok { IfOk result (λ outcome. (was : Option Group) → IsKeptAs was group.old
         → (left : Option Group) × IsKeptAs left group.new
-        × LineComes (state_of B.meaning engine.old) number line.now was output.old outcome (state_of B.meaning engine.new) left output.new) }
+        × LineComes (state_of B.meaning engine.old names.old.names) number line.now was output.old outcome
+        (state_of B.meaning engine.new names.new.names) left output.new) }
     ensures err { OnErr result (output.new ≡ output.old) }
 {
     let read = read(alloc, line, &Limits::program());
     if group.is_some() {
         take_inside(alloc, engine, read, group, output)
     } else {
-        take_outside(alloc, engine, number, read, group, output)
+        take_outside(alloc, engine, names, number, read, group, output)
     }
 }

@@ -24,6 +24,7 @@ use index_api::PathIndex;
 use pathindex_core::Engine;
 use px_base::{Failed, LINE_BYTES, LineFault, LineReader, Memory, SCRIPT_BYTES, Shelf, Sink};
 use std::alloc::Global;
+use triple_names::Names;
 
 /// How many gathered bytes are written at once.
 const PIECE_BYTES: usize = 65536;
@@ -109,6 +110,7 @@ fn next_line<B: PathIndex, H: Shelf>(
     alloc: Global,
     reader: &mut LineReader,
     engine: &mut Engine<B>,
+    names: &mut Names,
     shelf: &mut H,
     group: &mut Option<OpenGroup>,
     output: &mut Output,
@@ -118,8 +120,8 @@ fn next_line<B: PathIndex, H: Shelf>(
     ensures ready { IsOpen (by_meaning B.meaning engine.new) }
     ensures goes { IfOk result (λ next. (was : Option Group) → IsKeptAs was group.old → (left : Option Group) × IsKeptAs left group.new
         × (output.new.printing ≡ output.old.printing) × Goes (rules_for output.old.printing)
-        (progress (state_of B.meaning engine.old) was output.old.refused reader.old) (stream reader.old (H.left shelf.old)) output.old.text next
-        (progress (state_of B.meaning engine.new) left output.new.refused reader.new) (stream reader.new (H.left shelf.new)) output.new.text) }
+        (progress (state_of B.meaning engine.old names.old.names) was output.old.refused reader.old) (stream reader.old (H.left shelf.old)) output.old.text next
+        (progress (state_of B.meaning engine.new names.new.names) left output.new.refused reader.new) (stream reader.new (H.left shelf.new)) output.new.text) }
     ensures can { IfOk result (λ next. OnTaken next (CanRead reader.new (H.is_open shelf.new))) }
     ensures nearer { IfOk result (λ next. OnTaken next ((reader.old.taken < reader.new.taken) × (reader.new.taken ≤ SCRIPT_BYTES))) }
     ensures gathered { OnErr result ((was : Option Group) → IsKeptAs was group.old → output.new ≡ output.old) }
@@ -129,7 +131,15 @@ fn next_line<B: PathIndex, H: Shelf>(
     ensures no_sink { result ≢ Err Stop.Sink }
 {
     match reader.next(shelf) {
-        Ok(true) => match take(alloc, engine, reader.number(), reader.line(), group, output) {
+        Ok(true) => match take(
+            alloc,
+            engine,
+            names,
+            reader.number(),
+            reader.line(),
+            group,
+            output,
+        ) {
             Ok(Outcome::Done) => Ok(Next::Taken),
             Ok(Outcome::Bad) => push_bad(output, reader.number()),
             Err(_) => Err(Stop::Memory),
@@ -187,12 +197,14 @@ fn ending_of(in_group: bool, refused: bool) -> Ending
     }
 }
 
-/// Runs the script that is open, on the graph of the engine, to its end or to a line that is bad. O(t) for t bytes of
-/// the script, and what the commands cost (`Engine`); it takes memory for a block of the script, its longest line, and
-/// what is gathered of the output.
+/// Runs the script that is open, on the graph of the engine, to its end or to a line that is bad. By the names triples
+/// are inserted and deleted: the numbers of terms and triples in that graph. O(t) for t bytes of the script, and what the
+/// commands cost (`Engine`, `Names`); it takes memory for a block of the script, its longest line, and what is gathered of
+/// the output.
 pub fn run_lines<B: PathIndex, H: Shelf, K: Sink>(
     alloc: Global,
     engine: &mut Engine<B>,
+    mut names: Names,
     printing: Printing,
     shelf: &mut H,
     sink: &mut K,
@@ -200,9 +212,9 @@ pub fn run_lines<B: PathIndex, H: Shelf, K: Sink>(
     requires file { IsTrue (H.is_open shelf.old) }
     requires ready { IsOpen (by_meaning B.meaning engine.old) }
     ensures ready { IsOpen (by_meaning B.meaning engine.new) }
-    ensures ran { IfOk result (λ ending. RanObservable (rules_for printing) (state_of B.meaning engine.old) (H.left shelf.old)
+    ensures ran { IfOk result (λ ending. RanObservable (rules_for printing) (state_of B.meaning engine.old names.names) (H.left shelf.old)
         (K.written sink.old) (K.written sink.new) (status_at ending) (IsIn (by_meaning B.meaning engine.new))) }
-    ensures part { OnErr result (PrefixObservable (rules_for printing) (state_of B.meaning engine.old) (H.left shelf.old)
+    ensures part { OnErr result (PrefixObservable (rules_for printing) (state_of B.meaning engine.old names.names) (H.left shelf.old)
         (K.written sink.old) (K.written sink.new)) }
     ensures files { H.files shelf.new ≡ H.files shelf.old }
     ensures shelf_fault { IsErrOf result Stop.Shelf → MayHaveRisen (H.faults shelf.old) (H.faults shelf.new) }
@@ -215,7 +227,15 @@ pub fn run_lines<B: PathIndex, H: Shelf, K: Sink>(
     let mut group: Option<OpenGroup> = None;
     'lines: loop {
         flush_if_due(&reader, &mut output, sink)?;
-        match next_line(alloc, &mut reader, engine, shelf, &mut group, &mut output) {
+        match next_line(
+            alloc,
+            &mut reader,
+            engine,
+            &mut names,
+            shelf,
+            &mut group,
+            &mut output,
+        ) {
             Ok(Next::Taken) => (),
             Ok(Next::AtBad) => return finish(Ending::Bad, &mut output, sink),
             Ok(Next::AtEnd) => {

@@ -4,6 +4,7 @@ use Rattle.std.specs.Prelude.{codes, slice_index}
 use Rattle.std.specs.List.{AllByRecursion}
 use Rattle.std.proofs.lemmas.Fmt.{decimal_injective}
 use Rattle.change_spec.specs.Steps.{node, link, unlink, drop, relabel}
+use Rattle.triples_read.proofs.OneTriple.{one_reading}
 use Rattle.path_query.specs.Labels.{SpellsLabel}
 use Rattle.graph_spec.specs.Words.{node_word}
 use Rattle.bisim_spec.specs.declared.kind.Kind.{Kind}
@@ -12,10 +13,10 @@ use Rattle.index_api.specs.declared.kinds.Via.{Via}
 use Rattle.index_api.specs.declared.kinds.Via.TheVariants.{Data, A, One, Fb}
 use Rattle.index_api.specs.Spelling.{via_word, kind_word}
 use Rattle.script_read.specs.FirstWords.{first_word, behind_word, expression_text}
-use Rattle.script_read.specs.Commands.{Command, change, begin, end, path, branch, why, check, extents, sizes, forget, IsIndex, IsVia, IsQuiet, IsSpelled, SpellsPair, SpellsNodes, AsksWith, Asks, NoCommand, SpellsOnce, LabelsOnce, PathsOnce, BranchesOnce}
-use Rattle.script_read.specs.ScannedLines.{SaysNode, SaysRelabel, SaysQuery, SaysWhy, SaysCheck, IsWhole}
+use Rattle.script_read.specs.Commands.{Command, change, begin, end, insert, delete, path, branch, why, check, extents, sizes, forget, IsIndex, IsVia, IsQuiet, IsSpelled, SpellsPair, SpellsNodes, AsksWith, Asks, NoCommand, SpellsOnce, LabelsOnce, PathsOnce, BranchesOnce}
+use Rattle.script_read.specs.ScannedLines.{SaysNode, SaysRelabel, SaysTriple, SaysQuery, SaysWhy, SaysCheck, IsWhole}
 use Rattle.script_read.proofs.WordLemmas.{head_word, is_split}
-use Rattle.script_read.proofs.CommandLemmas.{second_same, third_same, lead, no_query, OpensWhole, no_part, apart, begins, opens_node, opens_relabel, silent}
+use Rattle.script_read.proofs.CommandLemmas.{second_same, third_same, lead, no_query, OpensWhole, no_part, opens_insert, opens_delete, apart, begins, opens_node, opens_relabel, silent}
 
 node_number : (m n : ℕ) → m < 2 ^ 32 → n < 2 ^ 32 → node_word m ≡ node_word n → m ≡ n
 node_number m n a b e = decimal_injective m n (omega arith) (omega arith) cc
@@ -107,11 +108,17 @@ command_one line o (extents v) (extents w) h k = ap extents (via_one v w (index_
 command_one line o sizes sizes h k = refl
 command_one line o begin begin h k = refl
 command_one line o end end h k = refl
+command_one line o (insert t) (insert u) h k = ap insert (one_reading (behind_word line) t u h.1 k.1)
+command_one line o (delete t) (delete u) h k = ap delete (one_reading (behind_word line) t u h.1 k.1)
 command_one line o (forget v) (forget w) h k = ap forget (kind_one v w (second_same (sym h ∙ k)))
 command_one line o (change c) begin h k = absurd (apart (first_word line) _ _ (begins line (change c) h) (begins line begin k) (no_query c).no_begin)
 command_one line o (change c) end h k = absurd (apart (first_word line) _ _ (begins line (change c) h) (begins line end k) (no_query c).no_end)
 command_one line o begin (change c) h k = absurd (apart (first_word line) _ _ (begins line (change c) k) (begins line begin h) (no_query c).no_begin)
 command_one line o end (change c) h k = absurd (apart (first_word line) _ _ (begins line (change c) k) (begins line end h) (no_query c).no_end)
+command_one line o (change c) (insert t) h k = absurd (apart (first_word line) _ _ (begins line (change c) h) (begins line (insert t) k) (no_query c).no_insert)
+command_one line o (change c) (delete t) h k = absurd (apart (first_word line) _ _ (begins line (change c) h) (begins line (delete t) k) (no_query c).no_delete)
+command_one line o (insert t) (change c) h k = absurd (apart (first_word line) _ _ (begins line (change c) k) (begins line (insert t) h) (no_query c).no_insert)
+command_one line o (delete t) (change c) h k = absurd (apart (first_word line) _ _ (begins line (change c) k) (begins line (delete t) h) (no_query c).no_delete)
 command_one line o (change c) (path v e) h k = absurd (apart (first_word line) _ _ (begins line (change c) h) (begins line (path v e) k) (no_query c).no_path)
 command_one line o (change c) (branch v e) h k = absurd (apart (first_word line) _ _ (begins line (change c) h) (begins line (branch v e) k) (no_query c).no_branch)
 command_one line o (change c) (why v e) h k = absurd (apart (first_word line) _ _ (begins line (change c) h) (begins line (why v e) k) (no_query c).no_why)
@@ -166,6 +173,9 @@ relabel_once line u word s once = command_one line (record {
   query = λ f. absurd (apart (first_word line) _ _ (opens_relabel line u word s) f (λ e. omega (arith, e)));
 })
 
+pub triple_once : (line word text : List ℕ) → SaysTriple word line text → OpensWhole (lead word) → SpellsOnce line
+triple_once line word text s o = command_one line (no_parts line word s.0 o)
+
 -- the line begins with this word, which a path expression follows
 expression_once : (line word text : List ℕ) → first_word line ≡ word → (lead word ≢ lead (codes "node")) → (lead word ≢ lead (codes "relabel")) → (lead word ≢ lead (codes "branch"))
     → text ≡ expression_text line → PathsOnce text → SpellsOnce line
@@ -196,4 +206,4 @@ branch_once line via text s once = command_one line (record {
 pub whole_once : (line : List ℕ) (c : Command) → IsSpelled line c → IsWhole c → SpellsOnce line
 whole_once line c h w = command_one line (no_parts line _ (begins line c h) (no_part c w))
 
-pub ruleset reading_laws = (silent, quiet_once, bad_once, node_once, relabel_once, path_once, branch_once, why_once, check_once, whole_once)
+pub ruleset reading_laws = (silent, quiet_once, bad_once, node_once, relabel_once, triple_once, opens_insert, opens_delete, path_once, branch_once, why_once, check_once, whole_once)

@@ -7,17 +7,19 @@ use Rattle.bisim_spec.specs.declared.kind.Kind.{Kind}
 use Rattle.index_api.specs.declared.kinds.Via.{Via}
 use Rattle.index_api.specs.Spelling.{via_word, kind_word}
 use Rattle.graph_spec.specs.declared.limits.Limits.{Limits}
+use Rattle.triples_read.specs.declared.term.Triple.{Triple}
+use Rattle.triples_read.specs.Lines.{Spells as SpellsTriple}
 use Rattle.path_spec.specs.Trees.{Expr}
 use Rattle.path_query.specs.Labels.{SpellsLabel}
 use Rattle.path_query.specs.Parsed.{Spells, is_past}
 use Rattle.branch_spec.specs.Trees.{Branch}
 use Rattle.branch_text.specs.Parsed.{Spells as SpellsQuery}
-use Rattle.script_read.specs.ScannedLines.{SaysNode, SaysRelabel, SaysQuery, SaysWhy, SaysCheck, IsWhole, OpensGroup}
+use Rattle.script_read.specs.ScannedLines.{SaysNode, SaysRelabel, SaysTriple, SaysQuery, SaysWhy, SaysCheck, IsWhole, OpensTriple}
 use Rattle.script_read.specs.ReadLines.{ReadsCommand}
 use Rattle.script_read.specs.declared.commands.ScriptError.{ScriptError}
 use Rattle.script_read.specs.declared.commands.ScriptError.TheVariants.{Bad, Limit, Memory}
 use Rattle.graph_spec.specs.Words.{node_word}
-use Rattle.script_read.specs.Commands.{Command, change, begin, end, path, branch, why, check, extents, sizes, forget, IsIndex, IsVia, SaysNothing, IsQuiet, AsksWith, Asks, by_path, by_branch, by_why, by_check, SpellsNodes, SpellsPath, SpellsBranch, SpellsWhy, SpellsCheck, PassesLimit, IsSpelled, NoCommand}
+use Rattle.script_read.specs.Commands.{Command, change, begin, end, insert, delete, path, branch, why, check, extents, sizes, forget, IsIndex, IsVia, SaysNothing, IsQuiet, AsksWith, Asks, by_path, by_branch, by_why, by_check, SpellsNodes, SpellsPath, SpellsBranch, SpellsWhy, SpellsCheck, PassesLimit, IsSpelled, NoCommand}
 use Rattle.script_read.specs.FirstWords.{IsSplit, OpensNothing, first_word, behind_word, expression_text}
 use Rattle.script_read.proofs.WordLemmas.{head_word, is_split, words-cons}
 
@@ -41,6 +43,8 @@ keyword (change (drop u)) = codes "drop"
 keyword (change (relabel u t)) = codes "relabel"
 keyword begin = codes "begin"
 keyword end = codes "end"
+keyword (insert t) = codes "insert"
+keyword (delete t) = codes "delete"
 keyword (path via e) = codes "path"
 keyword (branch via q) = codes "branch"
 keyword (why v e) = codes "why"
@@ -65,6 +69,8 @@ lead w = slice_index w 0 * 256 + slice_index w 1
 pub record OpensChange (b : ℕ) : Type 0 where
   pub no_begin : b ≢ lead (codes "begin")
   pub no_end : b ≢ lead (codes "end")
+  pub no_insert : b ≢ lead (codes "insert")
+  pub no_delete : b ≢ lead (codes "delete")
   pub no_path : b ≢ lead (codes "path")
   pub no_branch : b ≢ lead (codes "branch")
   pub no_why : b ≢ lead (codes "why")
@@ -75,11 +81,11 @@ pub record OpensChange (b : ℕ) : Type 0 where
 
 -- a change begins with no word of another command
 pub no_query : (s : Step) → OpensChange (lead (keyword (change s)))
-no_query (node t) = record { no_begin = λ e. omega (arith, e); no_end = λ e. omega (arith, e); no_path = λ e. omega (arith, e); no_branch = λ e. omega (arith, e); no_why = λ e. omega (arith, e); no_check = λ e. omega (arith, e); no_extents = λ e. omega (arith, e); no_sizes = λ e. omega (arith, e); no_forget = λ e. omega (arith, e) }
-no_query (link u v) = record { no_begin = λ e. omega (arith, e); no_end = λ e. omega (arith, e); no_path = λ e. omega (arith, e); no_branch = λ e. omega (arith, e); no_why = λ e. omega (arith, e); no_check = λ e. omega (arith, e); no_extents = λ e. omega (arith, e); no_sizes = λ e. omega (arith, e); no_forget = λ e. omega (arith, e) }
-no_query (unlink u v) = record { no_begin = λ e. omega (arith, e); no_end = λ e. omega (arith, e); no_path = λ e. omega (arith, e); no_branch = λ e. omega (arith, e); no_why = λ e. omega (arith, e); no_check = λ e. omega (arith, e); no_extents = λ e. omega (arith, e); no_sizes = λ e. omega (arith, e); no_forget = λ e. omega (arith, e) }
-no_query (drop u) = record { no_begin = λ e. omega (arith, e); no_end = λ e. omega (arith, e); no_path = λ e. omega (arith, e); no_branch = λ e. omega (arith, e); no_why = λ e. omega (arith, e); no_check = λ e. omega (arith, e); no_extents = λ e. omega (arith, e); no_sizes = λ e. omega (arith, e); no_forget = λ e. omega (arith, e) }
-no_query (relabel u t) = record { no_begin = λ e. omega (arith, e); no_end = λ e. omega (arith, e); no_path = λ e. omega (arith, e); no_branch = λ e. omega (arith, e); no_why = λ e. omega (arith, e); no_check = λ e. omega (arith, e); no_extents = λ e. omega (arith, e); no_sizes = λ e. omega (arith, e); no_forget = λ e. omega (arith, e) }
+no_query (node t) = record { no_begin = λ e. omega (arith, e); no_end = λ e. omega (arith, e); no_insert = λ e. omega (arith, e); no_delete = λ e. omega (arith, e); no_path = λ e. omega (arith, e); no_branch = λ e. omega (arith, e); no_why = λ e. omega (arith, e); no_check = λ e. omega (arith, e); no_extents = λ e. omega (arith, e); no_sizes = λ e. omega (arith, e); no_forget = λ e. omega (arith, e) }
+no_query (link u v) = record { no_begin = λ e. omega (arith, e); no_end = λ e. omega (arith, e); no_insert = λ e. omega (arith, e); no_delete = λ e. omega (arith, e); no_path = λ e. omega (arith, e); no_branch = λ e. omega (arith, e); no_why = λ e. omega (arith, e); no_check = λ e. omega (arith, e); no_extents = λ e. omega (arith, e); no_sizes = λ e. omega (arith, e); no_forget = λ e. omega (arith, e) }
+no_query (unlink u v) = record { no_begin = λ e. omega (arith, e); no_end = λ e. omega (arith, e); no_insert = λ e. omega (arith, e); no_delete = λ e. omega (arith, e); no_path = λ e. omega (arith, e); no_branch = λ e. omega (arith, e); no_why = λ e. omega (arith, e); no_check = λ e. omega (arith, e); no_extents = λ e. omega (arith, e); no_sizes = λ e. omega (arith, e); no_forget = λ e. omega (arith, e) }
+no_query (drop u) = record { no_begin = λ e. omega (arith, e); no_end = λ e. omega (arith, e); no_insert = λ e. omega (arith, e); no_delete = λ e. omega (arith, e); no_path = λ e. omega (arith, e); no_branch = λ e. omega (arith, e); no_why = λ e. omega (arith, e); no_check = λ e. omega (arith, e); no_extents = λ e. omega (arith, e); no_sizes = λ e. omega (arith, e); no_forget = λ e. omega (arith, e) }
+no_query (relabel u t) = record { no_begin = λ e. omega (arith, e); no_end = λ e. omega (arith, e); no_insert = λ e. omega (arith, e); no_delete = λ e. omega (arith, e); no_path = λ e. omega (arith, e); no_branch = λ e. omega (arith, e); no_why = λ e. omega (arith, e); no_check = λ e. omega (arith, e); no_extents = λ e. omega (arith, e); no_sizes = λ e. omega (arith, e); no_forget = λ e. omega (arith, e) }
 
 -- first bytes that aren't those of `node`, `relabel`, `path`, `branch`, `why` or `check`
 pub record OpensWhole (b : ℕ) : Type 0 where
@@ -111,6 +117,8 @@ begins line (change (drop u)) h = (head_word line _ _ _ _ (is_split line) h.0).0
 begins line (change (relabel u t)) h = (head_word line _ _ _ _ (is_split line) h.1).0
 begins line begin h = (head_word line _ _ _ _ (is_split line) h).0
 begins line end h = (head_word line _ _ _ _ (is_split line) h).0
+begins line (insert t) h = h.0
+begins line (delete t) h = h.0
 begins line (path via e) h = h.0.0
 begins line (branch via q) h = h.0.0
 begins line (why v e) h = h.0.0
@@ -310,30 +318,49 @@ module _ (line word rest : List ℕ) (loud : ¬ OpensNothing word) (is_first : w
       other (change d) h = clash _ e (change d) h (λ z. (no_query d).no_end (sym z))
       other c h = clash _ e c h (λ d. omega (arith, d))
 
-  pub none_other : OpensGroup word → word ≢ codes "begin" → word ≢ codes "end" → NoCommand line × (¬ Asks line)
-  none_other o b z = ((not_quiet, other), asks)
+  -- what follows `insert`, or `delete`, spells no triple
+  pub none_insert : word ≡ codes "insert" → ((t : Triple) → SpellsTriple rest t → ⊥) → NoCommand line
+  none_insert e absent = (not_quiet, other)
     where
       other : (c : Command) → IsSpelled line c → ⊥
-      other (change (node t)) h = o.report.other.no_node (starts (change (node t)) h)
-      other (change (link u v)) h = o.report.other.no_link (starts (change (link u v)) h)
-      other (change (unlink u v)) h = o.report.other.no_unlink (starts (change (unlink u v)) h)
-      other (change (drop u)) h = o.report.other.no_drop (starts (change (drop u)) h)
-      other (change (relabel u t)) h = o.report.other.no_relabel (starts (change (relabel u t)) h)
-      other begin h = b (starts begin h)
-      other end h = z (starts end h)
-      other (path via e) h = o.report.no_path (starts (path via e) h)
-      other (branch via q) h = o.report.no_branch (starts (branch via q) h)
-      other (why v e) h = o.report.no_why (starts (why v e) h)
-      other (check nodes e) h = o.report.no_check (starts (check nodes e) h)
-      other (extents via) h = o.no_extents (starts (extents via) h)
-      other sizes h = o.no_sizes (starts sizes h)
-      other (forget kind) h = o.no_forget (starts (forget kind) h)
+      other (insert t) h = absent t (subst (λ text. SpellsTriple text t) (sym is_rest) h.1)
+      other (change d) h = clash _ e (change d) h (λ z. (no_query d).no_insert (sym z))
+      other c h = clash _ e c h (λ d. omega (arith, d))
+
+  pub none_delete : word ≡ codes "delete" → ((t : Triple) → SpellsTriple rest t → ⊥) → NoCommand line
+  none_delete e absent = (not_quiet, other)
+    where
+      other : (c : Command) → IsSpelled line c → ⊥
+      other (delete t) h = absent t (subst (λ text. SpellsTriple text t) (sym is_rest) h.1)
+      other (change d) h = clash _ e (change d) h (λ z. (no_query d).no_delete (sym z))
+      other c h = clash _ e c h (λ d. omega (arith, d))
+
+  pub none_other : OpensTriple word → word ≢ codes "insert" → word ≢ codes "delete" → NoCommand line × (¬ Asks line)
+  none_other o i d = ((not_quiet, other), asks)
+    where
+      other : (c : Command) → IsSpelled line c → ⊥
+      other (change (node t)) h = o.group.report.other.no_node (starts (change (node t)) h)
+      other (change (link u v)) h = o.group.report.other.no_link (starts (change (link u v)) h)
+      other (change (unlink u v)) h = o.group.report.other.no_unlink (starts (change (unlink u v)) h)
+      other (change (drop u)) h = o.group.report.other.no_drop (starts (change (drop u)) h)
+      other (change (relabel u t)) h = o.group.report.other.no_relabel (starts (change (relabel u t)) h)
+      other begin h = o.no_begin (starts begin h)
+      other end h = o.no_end (starts end h)
+      other (insert t) h = i (starts (insert t) h)
+      other (delete t) h = d (starts (delete t) h)
+      other (path via e) h = o.group.report.no_path (starts (path via e) h)
+      other (branch via q) h = o.group.report.no_branch (starts (branch via q) h)
+      other (why v e) h = o.group.report.no_why (starts (why v e) h)
+      other (check nodes e) h = o.group.report.no_check (starts (check nodes e) h)
+      other (extents via) h = o.group.no_extents (starts (extents via) h)
+      other sizes h = o.group.no_sizes (starts sizes h)
+      other (forget kind) h = o.group.no_forget (starts (forget kind) h)
 
       asks : ¬ Asks line
-      asks (by_path via a) = o.report.no_path (is_first ∙ a.0)
-      asks (by_branch via a) = o.report.no_branch (is_first ∙ a.0)
-      asks (by_why v a) = o.report.no_why (is_first ∙ a.0)
-      asks (by_check nodes a) = o.report.no_check (is_first ∙ a.0)
+      asks (by_path via a) = o.group.report.no_path (is_first ∙ a.0)
+      asks (by_branch via a) = o.group.report.no_branch (is_first ∙ a.0)
+      asks (by_why v a) = o.group.report.no_why (is_first ∙ a.0)
+      asks (by_check nodes a) = o.group.report.no_check (is_first ∙ a.0)
 
 -- a line that says nothing is no command
 pub silent : (line : List ℕ) → IsQuiet line → (c : Command) → IsSpelled line c → ⊥
@@ -347,6 +374,8 @@ silent line q c h = loud c h (subst OpensNothing (begins line c h) (quiet_opens 
     loud (change (relabel u t)) h o = omega (arith, o)
     loud begin h o = omega (arith, o)
     loud end h o = omega (arith, o)
+    loud (insert t) h o = omega (arith, o)
+    loud (delete t) h o = omega (arith, o)
     loud (path via e) h o = omega (arith, o)
     loud (branch via q) h o = omega (arith, o)
     loud (why v e) h o = omega (arith, o)
@@ -408,6 +437,27 @@ node_bad line word s absent = (quiet, other)
     other (change (node t)) h = absent t (subst (λ w. SpellsLabel w t) (second_same (sym h.1 ∙ s)) h.2)
     other c h = apart (first_word line) _ _ (opens_node line word s) (begins line c h) (λ d. omega (arith, d))
 
+-- what follows the first word is no expression
+pub triple_free : (limits : Limits) (line word text : List ℕ) → SaysTriple word line text → OpensWhole (lead word) → ¬ PassesLimit limits line
+triple_free limits line word text s o k = asks_otherwise line word s.0 o.no_path o.no_branch o.no_why o.no_check k.0
+
+pub opens_insert : OpensWhole (lead (codes "insert"))
+opens_insert = record { no_node = λ e. omega (arith, e); no_relabel = λ e. omega (arith, e); no_path = λ e. omega (arith, e); no_branch = λ e. omega (arith, e); no_why = λ e. omega (arith, e); no_check = λ e. omega (arith, e) }
+
+pub opens_delete : OpensWhole (lead (codes "delete"))
+opens_delete = record { no_node = λ e. omega (arith, e); no_relabel = λ e. omega (arith, e); no_path = λ e. omega (arith, e); no_branch = λ e. omega (arith, e); no_why = λ e. omega (arith, e); no_check = λ e. omega (arith, e) }
+
+-- the text behind `insert`, or `delete`, spells no triple
+pub insert_bad : (line text : List ℕ) → SaysTriple (codes "insert") line text → ((t : Triple) → SpellsTriple text t → ⊥) → NoCommand line
+insert_bad line text s absent =
+    none_insert line (first_word line) (behind_word line) (λ o. (let n : OpensNothing (codes "insert") = subst OpensNothing s.0 o in omega (arith, n))) refl refl s.0
+    (λ t h. absent t (subst (λ x. SpellsTriple x t) (sym s.1) h))
+
+pub delete_bad : (line text : List ℕ) → SaysTriple (codes "delete") line text → ((t : Triple) → SpellsTriple text t → ⊥) → NoCommand line
+delete_bad line text s absent =
+    none_delete line (first_word line) (behind_word line) (λ o. (let n : OpensNothing (codes "delete") = subst OpensNothing s.0 o in omega (arith, n))) refl refl s.0
+    (λ t h. absent t (subst (λ x. SpellsTriple x t) (sym s.1) h))
+
 -- the line asks for what spells no expression
 pub path_bad : (line : List ℕ) (via : Via) (text : List ℕ) → SaysQuery (codes "path") line via text → ((e : Expr) → Spells text e → ⊥) → NoCommand line
 path_bad line via text s absent =
@@ -448,6 +498,13 @@ pub failed_relabel : (limits : Limits) (line : List ℕ) (u : ℕ) (word : List 
 failed_relabel limits line u word Bad s n f = (relabel_bad line u word s (f refl), relabel_free limits line u word s)
 failed_relabel limits line u word Limit s n f = absurd (n refl)
 failed_relabel limits line u word Memory s n f = tt
+
+-- or the text behind `insert` or `delete`
+pub failed_triple : (limits : Limits) (line word text : List ℕ) (e : ScriptError) → SaysTriple word line text → OpensWhole (lead word) → (e ≢ Limit)
+    → (e ≡ Bad → NoCommand line) → ReadsCommand limits line (Err e)
+failed_triple limits line word text Bad s o n f = (f refl, triple_free limits line word text s o)
+failed_triple limits line word text Limit s o n f = absurd (n refl)
+failed_triple limits line word text Memory s o n f = tt
 
 -- and if that behind `check` did
 pub failed_nodes : (limits : Limits) (line word text : List ℕ) (e : ScriptError) → SaysCheck line word text → (e ≢ Limit)

@@ -4,6 +4,10 @@ use Rattle.std.specs.Prelude.{codes, decimal, slice_index}
 use Rattle.std.proofs.lemmas.Fmt.{decimal_digit, first_decimal}
 use Rattle.graph_spec.specs.Words.{node_word}
 use Rattle.change_spec.specs.Steps.{node, link, unlink, drop as drop_node, relabel}
+use Rattle.triples_read.specs.declared.term.Term.TheVariants.{Iri, Blank}
+use Rattle.triples_read.specs.declared.term.Triple.{Triple}
+use Rattle.triples_read.specs.Lines.{Spells as SpellsTriple}
+use Rattle.triples_read.proofs.OneTriple.{spelled_not_empty}
 use Rattle.path_query.specs.Labels.{SpellsLabel}
 use Rattle.path_spec.specs.Trees.{Expr, only, last, once, label}
 use Rattle.branch_spec.specs.Trees as tree
@@ -12,7 +16,7 @@ use Rattle.bisim_spec.specs.declared.kind.Kind.{Kind}
 use Rattle.bisim_spec.specs.declared.kind.Kind.TheVariants as kind
 use Rattle.index_api.specs.declared.kinds.Via.{Via}
 use Rattle.index_api.specs.declared.kinds.Via.TheVariants.{Data, A, One, Fb}
-use Rattle.script_read.specs.Commands.{Command, change, begin, end as end_group, path, branch, why, check, extents, sizes, forget, IsQuiet, IsSpelled, SpellsNodes, NoCommand}
+use Rattle.script_read.specs.Commands.{Command, change, begin, end as end_group, insert, delete, path, branch, why, check, extents, sizes, forget, IsQuiet, IsSpelled, SpellsNodes, NoCommand}
 use Rattle.script_read.specs.FirstWords.{expression_text}
 
 -- blanks may stand at both ends and between the words
@@ -106,6 +110,53 @@ no_word_behind_begin h = omega (arith, ap length h)
 
 no_longer_word : ¬ IsSpelled (codes "ends") end_group
 no_longer_word h = omega (arith, ap (λ ws. length (first ws)) h)
+
+-- a triple is spelled as in a graph file, perhaps with a comment behind it
+abbrev a_b_c : Triple
+a_b_c = record { subject = Iri (codes "a"); predicate = codes "b"; object = Blank (codes "c") }
+
+behind_blank : SpellsTriple (codes " <a> <b>_:c.#") a_b_c
+unfolding lib.Utf8.encode
+behind_blank = (
+  record { chars = codes " <a> <b>_:c.#"; scalars = refl; encoded = refl },
+  codes " ",
+  codes "<a> <b>_:c.",
+  [],
+  codes "#",
+  refl,
+  ((refl, refl), tt),
+  record {
+    subject = codes "<a>";
+    gap = codes " ";
+    predicate = codes "<b>";
+    gap2 = [];
+    object = codes "_:c";
+    gap3 = [];
+    whole = refl;
+    gaps = (((refl, refl), tt), tt, tt);
+    is_subject = (codes "a", (codes "a", refl, (codes "a", [], refl, inl (refl, refl, refl), refl)), refl);
+    is_predicate = (codes "b", (codes "b", refl, (codes "b", [], refl, inl (refl, refl, refl), refl)), refl);
+    is_object = (codes "c", (refl, (99, [], refl, refl, refl, inl refl)), refl);
+  },
+  tt,
+  inr ([], refl),
+)
+
+insert_spelled : IsSpelled (codes "insert <a> <b>_:c.#") (insert a_b_c)
+insert_spelled = (refl, behind_blank)
+
+delete_spelled : IsSpelled (codes "\tdelete <a> <b>_:c.#") (delete a_b_c)
+delete_spelled = (refl, behind_blank)
+
+-- the word is one of its own, and a comment alone is no triple
+no_word_before_triple : (t : Triple) → ¬ IsSpelled (codes "insert<a> <b> <c> .") (insert t)
+no_word_before_triple t h = omega (arith, ap length h.0)
+
+no_triple_left_out : (t : Triple) → ¬ IsSpelled (codes "delete # <a> <b> <c> .") (delete t)
+unfolding lib.Utf8.encode
+no_triple_left_out t h =
+    spelled_not_empty (codes " # <a> <b> <c> .") t h.1
+    (record { chars = codes " # <a> <b> <c> ."; scalars = refl; encoded = refl }, codes " ", codes "# <a> <b> <c> .", refl, ((refl, refl), tt), inr (codes " <a> <b> <c> .", refl))
 
 -- a blank line and a comment are quiet
 blank_quiet : IsQuiet (codes " \t")
@@ -238,6 +289,8 @@ bad_label = (λ q. omega (arith, q), other)
     other (change (relabel u t)) h = omega (arith, ap length h.1)
     other begin h = omega (arith, ap length h)
     other end_group h = omega (arith, ap length h)
+    other (insert t) h = omega (arith, ap (λ l. slice_index l 0) h.0)
+    other (delete t) h = omega (arith, ap (λ l. slice_index l 0) h.0)
     other (path via e) h = omega (arith, ap (λ l. slice_index l 0) h.0.0)
     other (branch via q) h = omega (arith, ap (λ l. slice_index l 0) h.0.0)
     other (why v e) h = omega (arith, ap (λ l. slice_index l 0) h.0.0)

@@ -4,6 +4,8 @@ use Rattle.std.specs.List.{slice_split, AllByRecursion}
 use Rattle.graph_spec.specs.declared.limits.Limits.{Limits}
 use Rattle.graph_spec.specs.Words.{words, node_word}
 use Rattle.change_spec.specs.Steps.{Step, node, link, unlink, drop, relabel}
+use Rattle.triples_read.specs.declared.term.Triple.{Triple}
+use Rattle.triples_read.specs.Lines.{Spells as SpellsTriple}
 use Rattle.path_spec.specs.Trees.{Expr}
 use Rattle.path_query.specs.Labels.{SpellsLabel}
 use Rattle.path_query.specs.Parsed.{Spells, is_past}
@@ -21,6 +23,9 @@ pub data Command : Type 0 where
   -- the first and the last line of a group of steps
   begin : Command
   end : Command
+  -- a triple comes into the graph, or goes out of it
+  insert : Triple → Command
+  delete : Triple → Command
   -- the answers of a path expression, asked through this
   path : Via → Expr → Command
   -- the answers of a branching query, asked through this
@@ -57,6 +62,10 @@ SpellsChange line (link u v) = SpellsPair line (codes "link") u v
 SpellsChange line (unlink u v) = SpellsPair line (codes "unlink") u v
 SpellsChange line (drop u) = (words line ≡ codes "drop" ∷ node_word u ∷ []) × (u < 2 ^ 32)
 SpellsChange line (relabel u t) = (word : List ℕ) × (words line ≡ codes "relabel" ∷ node_word u ∷ word ∷ []) × (u < 2 ^ 32) × SpellsLabel word t
+
+-- the line is the word, and what follows it spells the triple as a line of N-Triples does
+abbrev pub NamesTriple : List ℕ → List ℕ → Triple → Type 0
+NamesTriple line word t = (first_word line ≡ word) × SpellsTriple (behind_word line) t
 
 -- an index, whose level has 32 bits; the graph itself is none
 abbrev pub IsIndex : Via → Type 0
@@ -133,6 +142,8 @@ abbrev pub IsSpelled : List ℕ → Command → Type 0
 IsSpelled line (change s) = SpellsChange line s
 IsSpelled line begin = words line ≡ codes "begin" ∷ []
 IsSpelled line end = words line ≡ codes "end" ∷ []
+IsSpelled line (insert t) = NamesTriple line (codes "insert") t
+IsSpelled line (delete t) = NamesTriple line (codes "delete") t
 IsSpelled line (path via e) = SpellsPath line via e
 IsSpelled line (branch via q) = SpellsBranch line via q
 IsSpelled line (why v e) = SpellsWhy line v e

@@ -2,9 +2,9 @@
 use Rattle.std.specs.Prelude.{ℕ, ⊤, List, Option, None, Some, Result, Ok, Err}
 use Rattle.graph_spec.specs.declared.limits.Limits.{Limits}
 use Rattle.change_spec.specs.Steps.{node, link, unlink, drop, relabel}
-use Rattle.script_read.specs.Commands.{Command, change, begin, end, path, branch, why, check, extents, sizes, forget, IsQuiet, IsSpelled, PassesLimit, SpellsNothing}
+use Rattle.script_read.specs.Commands.{Command, change, begin, end, insert, delete, path, branch, why, check, extents, sizes, forget, IsQuiet, IsSpelled, PassesLimit, SpellsNothing}
 use Rattle.script_read.specs.declared.commands.Command.{Command as Asked}
-use Rattle.script_read.specs.declared.commands.Command.TheVariants.{Node, Link, Unlink, Drop, Relabel, Begin, End, Path, Branch, Why, Check, Extents, Sizes, Forget}
+use Rattle.script_read.specs.declared.commands.Command.TheVariants.{Node, Link, Unlink, Drop, Relabel, Begin, End, Insert, Delete, Path, Branch, Why, Check, Extents, Sizes, Forget}
 use Rattle.script_read.specs.declared.commands.ScriptError.{ScriptError}
 use Rattle.script_read.specs.declared.commands.ScriptError.TheVariants.{Bad, Limit, Memory}
 
@@ -17,6 +17,8 @@ command_of (Drop u) = change (drop u)
 command_of (Relabel u t) = change (relabel u t)
 command_of Begin = begin
 command_of End = end
+command_of (Insert t) = insert t
+command_of (Delete t) = delete t
 command_of (Path via e) = path via e
 command_of (Branch via q) = branch via q
 command_of (Why v e) = why v e

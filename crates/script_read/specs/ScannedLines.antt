@@ -7,7 +7,7 @@ use Rattle.script_read.specs.Commands.{Command, change, path, branch, why, check
 use Rattle.script_read.specs.FirstWords.{first_word, behind_word, expression_text, OpensNothing}
 use Rattle.script_read.specs.ReadLines.{command_of}
 use Rattle.script_read.specs.declared.scan.ScannedLine.{ScannedLine}
-use Rattle.script_read.specs.declared.scan.ScannedLine.TheVariants.{Quiet, Node, Relabel, Path, Branch, Why, Check, Whole, Bad}
+use Rattle.script_read.specs.declared.scan.ScannedLine.TheVariants.{Quiet, Node, Relabel, Insert, Delete, Path, Branch, Why, Check, Whole, Bad}
 
 -- the line adds a node with the label that this word spells
 abbrev pub SaysNode : List ℕ → List ℕ → Type 0
@@ -16,6 +16,10 @@ SaysNode line word = words line ≡ codes "node" ∷ word ∷ []
 -- the line gives this node the label that this word spells
 abbrev pub SaysRelabel : List ℕ → ℕ → List ℕ → Type 0
 SaysRelabel line u word = (words line ≡ codes "relabel" ∷ node_word u ∷ word ∷ []) × (u < 2 ^ 32)
+
+-- the line begins with this word, and this text follows it
+abbrev pub SaysTriple : List ℕ → List ℕ → List ℕ → Type 0
+SaysTriple word line text = (first_word line ≡ word) × (text ≡ behind_word line)
 
 -- the line begins with this word, and asks through this for the answers of what this text spells
 abbrev pub SaysQuery : List ℕ → List ℕ → Via → List ℕ → Type 0
@@ -63,11 +67,19 @@ pub record OpensGroup (word : List ℕ) : Type 0 where
   pub no_sizes : word ≢ codes "sizes"
   pub no_forget : word ≢ codes "forget"
 
+-- nor that of a line that begins or ends a group
+pub record OpensTriple (word : List ℕ) : Type 0 where
+  pub group : OpensGroup word
+  pub no_begin : word ≢ codes "begin"
+  pub no_end : word ≢ codes "end"
+
 -- the line says this
 abbrev pub IsScanned : List ℕ → ScannedLine → Type 0
 IsScanned line Quiet = IsQuiet line
 IsScanned line (Node word) = SaysNode line word.now
 IsScanned line (Relabel u word) = SaysRelabel line u word.now
+IsScanned line (Insert text) = SaysTriple (codes "insert") line text.now
+IsScanned line (Delete text) = SaysTriple (codes "delete") line text.now
 IsScanned line (Path via text) = SaysQuery (codes "path") line via text.now
 IsScanned line (Branch via text) = SaysQuery (codes "branch") line via text.now
 IsScanned line (Why v text) = SaysWhy line v text.now

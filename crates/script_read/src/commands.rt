@@ -1,5 +1,7 @@
 // Commands, and the lines that spell them.
 ghost use Rattle.std.specs.Prelude.{◌≡◌, ◌≢◌, ◌↔◌, ℕ, List, Err, IfOk, IsErrOf, IsTrue};
+ghost use Rattle.triples_read.specs.declared.term.Triple.{Triple as SpelledTriple};
+ghost use Rattle.triples_read.specs.Lines.{Spells as SpellsTriple};
 ghost use Rattle.path_spec.specs.Trees.{Expr};
 ghost use Rattle.path_query.specs.Labels.{SpellsLabel};
 ghost use Rattle.path_query.specs.Parsed.{Spells, is_past};
@@ -16,6 +18,7 @@ use path_query::{ExprError, PathExpr, read_label};
 use px_base::{Limits, NodeId, Text};
 use std::alloc::Global;
 use thiserror::Error;
+use triples_read::{LineError, Triple, read_line};
 use walk_proof::Walk;
 
 /// A command of a script.
@@ -41,6 +44,10 @@ pub enum Command {
     Begin,
     /// `end`: that change is made.
     End,
+    /// `insert TRIPLE`: the triple comes into the graph, with the nodes and edges that it lacks there.
+    Insert(Triple),
+    /// `delete TRIPLE`: the node of the triple is taken away, and those of its subject and object that it leaves alone.
+    Delete(Triple),
     /// `path VIA EXPR`: the nodes in which the walks end that the expression matches, asked through the graph itself
     /// or an index.
     Path(Via, PathExpr),
@@ -83,6 +90,20 @@ fn parse_label(alloc: Global, word: &[u8]) -> Result<Text, ScriptError>
         Ok(Some(label)) => Ok(label),
         Ok(None) => Err(ScriptError::Bad),
         Err(_) => Err(ScriptError::Memory),
+    }
+}
+
+/// The triple that the text spells, as a line of N-Triples does.
+fn parse_triple(alloc: Global, text: &[u8]) -> Result<Triple, ScriptError>
+    ensures ok { IfOk result (SpellsTriple text.now) }
+    ensures bad { IsErrOf result ScriptError.Bad → (t : SpelledTriple) → SpellsTriple text.now t → ⊥ }
+    ensures no_limit { result ≢ Err ScriptError.Limit }
+{
+    match read_line(alloc, text) {
+        Ok(Some(triple)) => Ok(triple),
+        Ok(None) => Err(ScriptError::Bad),
+        Err(LineError::Syntax) => Err(ScriptError::Bad),
+        Err(LineError::Memory) => Err(ScriptError::Memory),
     }
 }
 
@@ -148,6 +169,8 @@ pub fn read(alloc: Global, line: &[u8], limits: &Limits) -> Result<Option<Comman
         ScannedLine::Relabel(node, word) => {
             Ok(Some(Command::Relabel(node, parse_label(alloc, word)?)))
         }
+        ScannedLine::Insert(text) => Ok(Some(Command::Insert(parse_triple(alloc, text)?))),
+        ScannedLine::Delete(text) => Ok(Some(Command::Delete(parse_triple(alloc, text)?))),
         ScannedLine::Path(via, text) => Ok(Some(Command::Path(
             via,
             parse_path(alloc, text, limits)?,

@@ -5,7 +5,7 @@ ghost use Rattle.index_api.specs.declared.kinds.Via.{Via as AnyVia};
 ghost use Rattle.index_api.specs.Spelling.{via_word};
 ghost use Rattle.script_read.specs.Commands.{IsVia};
 ghost use Rattle.script_read.specs.FirstWords.{first_word, behind_word, without_blanks, OpensNothing};
-ghost use Rattle.script_read.specs.ScannedLines.{OpensOther, OpensReport, OpensGroup, IsScanned};
+ghost use Rattle.script_read.specs.ScannedLines.{OpensOther, OpensReport, OpensGroup, OpensTriple, IsScanned};
 
 use crate::commands::Command;
 use crate::indexes::{one_index, one_kind, via_of};
@@ -14,7 +14,7 @@ use crate::words::{is_over, is_word, one_word, split_word, trim_blanks};
 use index_api::Via;
 use px_base::NodeId;
 
-/// What a line says, before its label or expression is read. Such a text is borrowed from the line.
+/// What a line says, before its label, triple or expression is read. Such a text is borrowed from the line.
 #[derive(Drop)]
 pub(crate) enum ScannedLine<'a> {
     Quiet,
@@ -22,6 +22,10 @@ pub(crate) enum ScannedLine<'a> {
     Node(&'a [u8]),
     /// A node, and the text of its label.
     Relabel(NodeId, &'a [u8]),
+    /// The text of a triple that is inserted.
+    Insert(&'a [u8]),
+    /// The text of one that is deleted.
+    Delete(&'a [u8]),
     /// Through what a path expression is asked, and its text.
     Path(Via, &'a [u8]),
     /// The same of a branching query.
@@ -30,7 +34,7 @@ pub(crate) enum ScannedLine<'a> {
     Why(NodeId, &'a [u8]),
     /// The word of the nodes that may show why a node answers a path expression, and its text.
     Check(&'a [u8], &'a [u8]),
-    /// A command with neither label nor expression.
+    /// A command with no label, triple or expression.
     Whole(Command),
     Bad,
 }
@@ -78,7 +82,21 @@ fn check_parts(rest: &[u8]) -> (&[u8], &[u8])
     (word, trim_blanks(text))
 }
 
-/// What a line with these parts says, of which only the first and the last line of a group are left.
+/// What a line with these parts says, of which only those that insert and delete a triple are left.
+fn scan_triple<'a>(word: &'a [u8], rest: &'a [u8]) -> ScannedLine<'a>
+    requires { OpensTriple word.now }
+    ensures { (line : List ℕ) → word.now ≡ first_word line → rest.now ≡ behind_word line → IsScanned line result }
+{
+    if is_word(word, "insert") {
+        ScannedLine::Insert(rest)
+    } else if is_word(word, "delete") {
+        ScannedLine::Delete(rest)
+    } else {
+        ScannedLine::Bad
+    }
+}
+
+/// What a line with these parts says, which is no change, asks nothing and forgets nothing.
 fn scan_group<'a>(word: &'a [u8], rest: &'a [u8]) -> ScannedLine<'a>
     requires { OpensGroup word.now }
     ensures { (line : List ℕ) → word.now ≡ first_word line → rest.now ≡ behind_word line → IsScanned line result }
@@ -96,7 +114,7 @@ fn scan_group<'a>(word: &'a [u8], rest: &'a [u8]) -> ScannedLine<'a>
             ScannedLine::Bad
         }
     } else {
-        ScannedLine::Bad
+        scan_triple(word, rest)
     }
 }
 

@@ -1,4 +1,4 @@
-// The numbers that a load gives, and the changes that insert triples and delete them.
+// The numbers that a load gives, the changes that insert triples and delete them, and the numbers that are noted.
 use graph_load::load_named;
 use label_graph::Graph;
 use px_base::{Limits, MemShelf, Memory, Text};
@@ -31,7 +31,9 @@ fn triple_of(alloc: Global, line: &[u8]) -> Result<Triple, Fail> {
 }
 
 /// The numbers of the subject, the triple and the object.
-fn numbers_of(names: &Names, triple: &Triple) -> (Option<u32>, Option<u32>, Option<u32>) {
+type Numbers = (Option<u32>, Option<u32>, Option<u32>);
+
+fn numbers_of(names: &Names, triple: &Triple) -> Numbers {
     (
         names.term(&triple.subject),
         names.triple(triple),
@@ -42,7 +44,7 @@ fn numbers_of(names: &Names, triple: &Triple) -> (Option<u32>, Option<u32>, Opti
 #[test]
 fn terms_and_triples_have_their_numbers(rt: HostRuntime) -> Result<(), Fail> {
     let (_, names) = load_two(rt.alloc())?;
-    let rows: [(&[u8], (Option<u32>, Option<u32>, Option<u32>)); 4] = [
+    let rows: [(&[u8], Numbers); 4] = [
         (b"<a> <p> \"b\" .", (Some(0), Some(1), Some(2))),
         (
             b"<\\u0061><p>\"\\u0062\". # again",
@@ -117,5 +119,58 @@ fn deletes_take_terms_that_no_other_triple_has(rt: HostRuntime) -> Result<(), Fa
             "{line:?}"
         );
     }
+    Ok(())
+}
+
+/// The numbers of a triple's parts when it is staged, and once they are noted.
+fn note(
+    alloc: Global,
+    names: &mut Names,
+    line: &[u8],
+    placed: Placed,
+) -> Result<(Numbers, Numbers), Fail> {
+    let staged = triple_of(alloc, line)?;
+    names.stage(alloc, &staged)?;
+    let before = numbers_of(names, &staged);
+    names.note(staged, placed);
+    Ok((before, numbers_of(names, &triple_of(alloc, line)?)))
+}
+
+#[test]
+fn noted_numbers_take_the_place_of_others(rt: HostRuntime) -> Result<(), Fail> {
+    let (_, mut names) = load_two(rt.alloc())?;
+    let rows: [(&[u8], (u32, u32, u32), Numbers); 4] = [
+        (b"<a> <p> <c> .", (0, 4, 5), (Some(0), None, None)),
+        (b"<a> <p> <c> .", (0, 6, 5), (Some(0), Some(4), Some(5))),
+        (b"_:b <p> _:b .", (7, 8, 7), (None, None, None)),
+        (b"<a> <q> <a> .", (9, 3, 9), (Some(0), Some(3), Some(0))),
+    ];
+    for (line, (subject, triple, object), before) in rows {
+        let placed = Placed {
+            subject,
+            triple,
+            object,
+        };
+        let after = (Some(subject), Some(triple), Some(object));
+        assert!(rt;
+            note(rt.alloc(), &mut names, line, placed)? == (before, after),
+            "{line:?}"
+        );
+    }
+    let first = triple_of(rt.alloc(), b"<a> <p> \"b\" .")?;
+    assert!(rt; numbers_of(&names, &first) == (Some(9), Some(1), Some(2)));
+    Ok(())
+}
+
+#[test]
+fn names_may_begin_empty(rt: HostRuntime) -> Result<(), Fail> {
+    let mut names = Names::new(rt.alloc())?;
+    let placed = Placed {
+        subject: 0,
+        triple: 1,
+        object: 0,
+    };
+    let noted = note(rt.alloc(), &mut names, b"<a> <p> <a> .", placed)?;
+    assert!(rt; noted == ((None, None, None), (Some(0), Some(1), Some(0))));
     Ok(())
 }

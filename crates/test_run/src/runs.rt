@@ -212,6 +212,18 @@ const SCRIPTS: &[(&str, &str, u8)] = &[
     ("begin\nnode a\n", "bad 1\n", 4),
     ("node a\nbegin\nbegin\n", "added n0\nbad 3\n", 4),
     ("node a\nend\n", "added n0\nbad 2\n", 4),
+    // A triple comes and goes, with the term that is both its subject and its object.
+    (
+        "insert <http://e/a> <http://e/p> <http://e/a> .\ninsert <http://e/a> <http://e/p> <http://e/a> .\n\
+        delete <http://e/a> <http://e/p> <http://e/a> .\ndelete <http://e/a> <http://e/p> <http://e/a> .\npath data _\n",
+        "added n0\nadded n1\nok\nok\nok\nrefused no-node\nanswers 0\n",
+        1,
+    ),
+    (
+        "begin\ninsert <http://e/a> <http://e/p> <http://e/a> .\nend\n",
+        "bad 2\n",
+        4,
+    ),
     // Sets of parents count, and not their number.
     (
         "node a\nnode a\nnode b\nnode b\nlink n0 n2\nlink n1 n2\nlink n0 n3\nextents a1\n",
@@ -410,6 +422,16 @@ const GRAPHS: &[(Option<&str>, Option<&str>, &str, u8)] = &[
         ),
         Some(PEOPLE),
         "answers 3\nn4 n9 n15\nnodes 22 edges 24\na0 blocks 7 edges 10\na1 blocks 10 edges 11\na2 blocks 11 edges 11\n",
+        0,
+    ),
+    // The blank node stays, since another triple needs it.
+    (
+        Some(
+            "delete _:b0 <http://xmlns.com/foaf/0.1/name> \"Di\" .\npath data <http://xmlns.com/foaf/0.1/name>/literal\n\
+            insert _:b0 <http://xmlns.com/foaf/0.1/name> \"Di\" .\npath data blank/<http://xmlns.com/foaf/0.1/name>/literal\n",
+        ),
+        Some(PEOPLE),
+        "ok\nanswers 3\nn4 n9 n15\nadded n22\nadded n23\nok\nanswers 1\nn23\n",
         0,
     ),
 ];

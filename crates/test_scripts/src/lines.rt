@@ -15,6 +15,8 @@ enum Short {
     Relabel(u32),
     Begin,
     End,
+    Insert,
+    Delete,
     Path(Via),
     Branch(Via),
     Why(u32),
@@ -37,6 +39,8 @@ fn shorten(read: Result<Option<Command>, ScriptError>) -> Short {
         Ok(Some(Command::Relabel(node, _))) => Short::Relabel(node),
         Ok(Some(Command::Begin)) => Short::Begin,
         Ok(Some(Command::End)) => Short::End,
+        Ok(Some(Command::Insert(_))) => Short::Insert,
+        Ok(Some(Command::Delete(_))) => Short::Delete,
         Ok(Some(Command::Path(via, _))) => Short::Path(via),
         Ok(Some(Command::Branch(via, _))) => Short::Branch(via),
         Ok(Some(Command::Why(node, _))) => Short::Why(node),
@@ -55,7 +59,7 @@ fn shorten(read: Result<Option<Command>, ScriptError>) -> Short {
 
 #[test]
 fn lines_are_commands(rt: HostRuntime) -> Result<(), Fail> {
-    let rows: [(&[u8], Short); 28] = [
+    let rows: [(&[u8], Short); 31] = [
         (b"", Short::Quiet),
         (b" \t# node a", Short::Quiet),
         (b" node\ta ", Short::Node),
@@ -70,6 +74,9 @@ fn lines_are_commands(rt: HostRuntime) -> Result<(), Fail> {
         ),
         (b" begin\t", Short::Begin),
         (b"end", Short::End),
+        (b"insert <http://e/a> <http://e/p> _:b .", Short::Insert),
+        (b" insert\t<><>\"x\"@en.# so", Short::Insert),
+        (b"delete  _:b <http://e/p> \"x\" . ", Short::Delete),
         (b"path data a / b \t", Short::Path(Via::Data)),
         (b"path data (a|b)*//_ ", Short::Path(Via::Data)),
         (b"path one a", Short::Path(Via::One)),
@@ -103,7 +110,7 @@ fn lines_are_commands(rt: HostRuntime) -> Result<(), Fail> {
 
 #[test]
 fn near_misses_are_bad(rt: HostRuntime) -> Result<(), Fail> {
-    let lines: [&[u8]; 47] = [
+    let lines: [&[u8]; 54] = [
         b"node",
         b"node and",
         b"node a b",
@@ -123,6 +130,13 @@ fn near_misses_are_bad(rt: HostRuntime) -> Result<(), Fail> {
         b"end n0",
         b"begins",
         b"END",
+        b"insert",
+        b"insert # <http://e/a> <http://e/p> <http://e/b> .",
+        b"insert <http://e/a> <http://e/p> <http://e/b>",
+        b"insert<http://e/a> <http://e/p> <http://e/b> .",
+        b"insert <http://e/a> <http://e/p> \"\xff\" .",
+        b"delete \"x\" <http://e/p> <http://e/b> .",
+        b"delete n0",
         b"path data a b",
         b"path data a**",
         b"path two a",

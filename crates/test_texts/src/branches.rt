@@ -76,6 +76,34 @@ fn texts_are_read(rt: HostRuntime) {
     }
 }
 
+/// Queries, and how many edges away from its answers each looks.
+const DEPTHS: &[(&str, Option<u32>)] = &[
+    ("a", Some(0)),
+    ("b[/c]", Some(1)),
+    ("a/b[/c]", Some(1)),
+    ("a[/b]/c", Some(2)),
+    ("a[/b[/c]]", Some(2)),
+    ("a[not(/b/c)]", Some(2)),
+    ("a[/b or (\\c/d/e and /f)]\\g", Some(4)),
+    ("a[//b]", None),
+    ("a\\\\b", None),
+];
+
+/// Whether the query looks so far.
+fn looks_so_far(alloc: Global, text: &str, depth: Option<u32>) -> bool {
+    match Branch::parse(alloc, text.as_bytes(), &Limits::program()) {
+        Ok(query) => query.depth() == depth,
+        Err(_) => false,
+    }
+}
+
+#[test]
+fn queries_have_depths(rt: HostRuntime) {
+    for (text, depth) in DEPTHS {
+        assert!(rt; looks_so_far(rt.alloc(), text, *depth), "at {text}");
+    }
+}
+
 const FEW: Limits = Limits {
     nodes: 1,
     edges: 1,

@@ -9,19 +9,21 @@ use Rattle.triples_read.specs.declared.term.Triple.{Triple}
 use Rattle.triple_names.specs.Items.{Item, item_label, is_part, joins, has_item, has_join}
 use Rattle.triple_names.specs.Names.{Names, number_in}
 use Rattle.triple_names.specs.Represented.{IsImage, Represents, is_among}
+use Rattle.triple_names.specs.TripleChanges.{placed_in, noted}
 use Rattle.triple_names.specs.Histories.{Edit, insert, delete, Edits, EditsAll, edited, edited_all}
 use Rattle.triple_names.specs.Isomorphic.{IsIsomorphism}
 use Rattle.triple_names.proofs.ItemLaws.{agree, find_one, found_one, joined_items}
 use Rattle.triple_names.proofs.ImageSteps.{same_number}
 use Rattle.triple_names.proofs.InsertKept.{insert_keeps}
 use Rattle.triple_names.proofs.DeleteKept.{delete_keeps}
+use Rattle.triple_names.proofs.SameNames.{represents_by}
 
 edit_keeps : (limits : Limits) (e : Edit) (g h : Graph) (n k : Names) (s : List Triple) → Represents g n s → Edits limits e g n h k → Represents h k (edited e s)
-edit_keeps limits (insert t) g h n k s r e = subst (λ j. Represents h j (edited (insert t) s)) (sym e.2) (insert_keeps limits g h n s t r e.0 e.1)
-edit_keeps limits (delete t) g h n k s r e = subst (λ j. Represents h j (edited (delete t) s)) (sym e.3) (delete_keeps limits g h n s t e.0 r e.1 e.2)
+edit_keeps limits (insert t) g h n k s r e = represents_by h (noted t (placed_in n g t) n) k (edited (insert t) s) e.2 (insert_keeps limits g h n s t r e.0 e.1)
+edit_keeps limits (delete t) g h n k s r e = represents_by h n k (edited (delete t) s) e.3 (delete_keeps limits g h n s t e.0 r e.1 e.2)
 
 pub edits_keep : (limits : Limits) (es : List Edit) (g h : Graph) (n k : Names) (s : List Triple) → Represents g n s → EditsAll limits es g n h k → Represents h k (edited_all es s)
-edits_keep limits [] g h n k s r e = subst (λ j. Represents h j s) e.1 (subst (λ j. Represents j n s) e.0 r)
+edits_keep limits [] g h n k s r e = represents_by h n k s e.1 (subst (λ j. Represents j n s) e.0 r)
 edits_keep limits (x ∷ xs) g h n k s r e = edits_keep limits xs e.0 h e.1 k (edited x s) (edit_keeps limits x g e.0 n e.1 s r e.2) e.3
 
 -- the two numbers are those of one item

@@ -1,6 +1,6 @@
 -- Which keys are those of a triple, and what their numbers are.
-use Rattle.std.proofs.Common.{◌≡◌, ℕ, zero, suc, ◌<◌, Bool, true, false, ◌&&◌, ◌||◌, cond, List, [], ◌∷◌, ◌++◌, length, map, Option, Some, None, refl, sym, ap, ◌∙◌, arith}
-use Rattle.std.specs.Prelude.{nat_eq, position, bytes_eq, unwrap_or, slice_get}
+use Rattle.std.proofs.Common.{◌≡◌, ℕ, zero, suc, ◌<◌, Bool, true, false, ◌&&◌, ◌||◌, cond, List, [], ◌∷◌, ◌++◌, length, map, Option, Some, None, refl, sym, ap, ◌∙◌, subst, arith}
+use Rattle.std.specs.Prelude.{is_some, nat_eq, position, bytes_eq, unwrap_or, slice_get}
 use Rattle.std.specs.List.{list_any, AllByRecursion}
 use Rattle.std.specs.Map.{keys_of, lookup}
 use Rattle.std.proofs.lemmas.List.{map-append, length-map}
@@ -11,13 +11,12 @@ use Rattle.triples_read.specs.declared.term.Term.TheVariants.{Iri}
 use Rattle.term_table.specs.Entries.{Begins}
 use Rattle.triples_read.specs.declared.term.Term.{Term}
 use Rattle.triples_read.specs.declared.term.Triple.{Triple}
-use Rattle.term_table.specs.Terms.{same_term, place_in}
-use Rattle.term_table.proofs.SameTerms.{term_is, same_bytes}
+use Rattle.term_table.specs.Terms.{same_term, number_of, place_in}
+use Rattle.term_table.proofs.SameTerms.{term_is, term_same, same_bytes}
 use Rattle.triple_names.specs.declared.triple_table.Key.{Key}
 use Rattle.triple_names.specs.Items.{same_triple}
-use Rattle.triple_names.specs.Names.{triple_number}
-use Rattle.triple_names.specs.TableIndexes.{stands, is_key_of, same_key, term_at, predicate_at, triple_at, IsKeyIn, AreKeysIn, names_by}
-use Rattle.triple_names.proofs.PlaceLaws.{is_at, stands_at, stands_append, stands_same, lookup_none, position_append}
+use Rattle.triple_names.specs.TableIndexes.{stands, is_key_of, same_key, term_at, predicate_at, IsKeyIn, AreKeysIn}
+use Rattle.triple_names.proofs.PlaceLaws.{is_at, stands_at, stands_append, stands_same, position_append, position_push, keys_push, is_some-lookup}
 
 pub any_same : {X : Type 0} (p q : X → Bool) (xs : List X) → ((x : X) → p x ≡ q x) → list_any p xs ≡ list_any q xs
 any_same p q xs h = ap (λ r. list_any r xs) (λ i x. h x i)
@@ -34,7 +33,7 @@ false_last false = refl
 pub placed_at : {X : Type 0} (p : X → Bool) (xs : List X) (o : Option ℕ) (k : ℕ) → position p xs ≡ o → stands p xs k ≡ is_at o k
 placed_at p xs o k h = stands_at p xs k ∙ ap (λ q. is_at q k) h
 
-term_at_place : (terms : List (Term × ℕ)) (x : Term) (o : Option ℕ) (k : ℕ) → place_in terms x ≡ o → stands (same_term x) (keys_of terms) k ≡ is_at o k
+pub term_at_place : (terms : List (Term × ℕ)) (x : Term) (o : Option ℕ) (k : ℕ) → place_in terms x ≡ o → stands (same_term x) (keys_of terms) k ≡ is_at o k
 term_at_place terms x o k h = placed_at (same_term x) (keys_of terms) o k h
 
 predicate_found : (predicates : List (List ℕ)) (iri : List ℕ) (o : Option ℕ) (k : ℕ) → position (bytes_eq iri) predicates ≡ o → stands (bytes_eq iri) predicates k ≡ is_at o k
@@ -65,11 +64,11 @@ module _ (terms : List (Term × ℕ)) (predicates : List (List ℕ)) (t : Triple
       → place_in terms t.object ≡ Some key.object → list_any (same_key key) ks ≡ list_any (is_key_of terms predicates t) ks
   known_key ks key s p o = sym (any_same _ (same_key key) ks (key_test key s p o))
 
-  pub known_number : (entries : List (Key × ℕ)) (key : Key) → place_in terms t.subject ≡ Some key.subject → position (bytes_eq t.predicate) predicates ≡ Some key.predicate
+  pub known_number : {V : Type 0} (entries : List (Key × V)) (key : Key) → place_in terms t.subject ≡ Some key.subject → position (bytes_eq t.predicate) predicates ≡ Some key.predicate
       → place_in terms t.object ≡ Some key.object → lookup (same_key key) entries ≡ lookup (is_key_of terms predicates t) entries
   known_number entries key s p o = sym (ap (λ r. lookup r entries) (λ i k. key_test key s p o k i))
 
-itself : (n : ℕ) → nat_eq n n ≡ true
+pub itself : (n : ℕ) → nat_eq n n ≡ true
 itself n = grind (arith, nat_tests)
 
 -- a key is that of its own triple alone
@@ -80,30 +79,6 @@ key_of_same terms predicates t key s p o u =
     (λ i. stands_same same_term term_is (keys_of terms) u.subject t.subject key.subject (term_at_place terms t.subject (Some key.subject) key.subject s ∙ itself key.subject) i
     && (stands_same bytes_eq same_bytes predicates u.predicate t.predicate key.predicate (predicate_found predicates t.predicate (Some key.predicate) key.predicate p ∙ itself key.predicate) i
     && stands_same same_term term_is (keys_of terms) u.object t.object key.object (term_at_place terms t.object (Some key.object) key.object o ∙ itself key.object) i))
-
--- the numbers of triples are those of their keys
-pub number_by : (terms : List (Term × ℕ)) (predicates : List (List ℕ)) (entries : List (Key × ℕ)) (t : Triple) → AreKeysIn terms predicates entries
-    → triple_number (names_by terms predicates entries).triples t ≡ lookup (is_key_of terms predicates t) entries
-number_by terms predicates [] t h = refl
-number_by terms predicates (e ∷ es) t h =
-    (λ i. cond (sym (key_of_same terms predicates (triple_at terms predicates e.0) e.0 h.0.subject h.0.predicate h.0.object t) i) (Some e.1) (number_by terms predicates es t h.1 i))
-
-module _ (terms : List (Term × ℕ)) (predicates : List (List ℕ)) (entries : List (Key × ℕ)) (t : Triple) (keys : AreKeysIn terms predicates entries) where
-  abbrev number : Option ℕ
-  number = triple_number (names_by terms predicates entries).triples t
-
-  pub no_subject : place_in terms t.subject ≡ None → number ≡ None
-  no_subject h = number_by terms predicates entries t keys ∙ lookup_none (is_key_of terms predicates t) entries (unknown_subject terms predicates t (keys_of entries) h)
-
-  pub no_predicate : position (bytes_eq t.predicate) predicates ≡ None → number ≡ None
-  no_predicate h = number_by terms predicates entries t keys ∙ lookup_none (is_key_of terms predicates t) entries (unknown_predicate terms predicates t (keys_of entries) h)
-
-  pub no_object : place_in terms t.object ≡ None → number ≡ None
-  no_object h = number_by terms predicates entries t keys ∙ lookup_none (is_key_of terms predicates t) entries (unknown_object terms predicates t (keys_of entries) h)
-
-  pub by_key : (key : Key) → place_in terms t.subject ≡ Some key.subject → position (bytes_eq t.predicate) predicates ≡ Some key.predicate → place_in terms t.object ≡ Some key.object
-      → lookup (same_key key) entries ≡ number
-  by_key key s p o = known_number terms predicates t entries key s p o ∙ sym (number_by terms predicates entries t keys)
 
 -- ---- tables that grow
 
@@ -148,7 +123,7 @@ module _ (terms more : List (Term × ℕ)) (predicates others : List (List ℕ))
   term_still : (i : ℕ) → i < length (keys_of terms) → term_at (terms ++ more) i ≡ term_at terms i
   term_still i h = ap (λ xs. unwrap_or (slice_get xs i) (Iri [])) keys_grown ∙ ap (λ o. unwrap_or o (Iri [])) (get_front (keys_of terms) (keys_of more) i h)
 
-  place_still : (x : Term) (i : ℕ) → place_in terms x ≡ Some i → place_in (terms ++ more) x ≡ Some i
+  pub place_still : (x : Term) (i : ℕ) → place_in terms x ≡ Some i → place_in (terms ++ more) x ≡ Some i
   place_still x i h = ap (position (same_term x)) keys_grown ∙ position_append (same_term x) (keys_of terms) (keys_of more) i h
 
   pub key_grown : (k : Key) → IsKeyIn terms predicates k → IsKeyIn (terms ++ more) (predicates ++ others) k
@@ -162,7 +137,7 @@ module _ (terms more : List (Term × ℕ)) (predicates others : List (List ℕ))
         object = ap (place_in (terms ++ more)) (term_still k.object inside.object) ∙ place_still (term_at terms k.object) k.object h.object;
       }
 
-  pub keys_in_grown : (entries : List (Key × ℕ)) → AreKeysIn terms predicates entries → AreKeysIn (terms ++ more) (predicates ++ others) entries
+  pub keys_in_grown : {V : Type 0} (entries : List (Key × V)) → AreKeysIn terms predicates entries → AreKeysIn (terms ++ more) (predicates ++ others) entries
   keys_in_grown [] h = tt
   keys_in_grown (e ∷ es) h = (key_grown e.0 h.0, keys_in_grown es h.1)
 
@@ -175,16 +150,28 @@ module _ (terms more : List (Term × ℕ)) (predicates others : List (List ℕ))
         && (ap (λ xs. stands (same_term t.object) xs k.object) keys_grown ∙ stands_append (same_term t.object) (keys_of terms) (keys_of more) k.object inside.object) i))
 
     -- what numbers have stays
-    pub numbers_stay : (entries : List (Key × ℕ)) → AreKeysIn terms predicates entries → lookup (is_key_of (terms ++ more) (predicates ++ others) t) entries ≡ lookup (is_key_of terms predicates t) entries
+    pub numbers_stay : {V : Type 0} (entries : List (Key × V)) → AreKeysIn terms predicates entries → lookup (is_key_of (terms ++ more) (predicates ++ others) t) entries ≡ lookup (is_key_of terms predicates t) entries
     numbers_stay [] h = refl
     numbers_stay (e ∷ es) h = λ i. cond (key_stays e.0 h.0 i) (Some e.1) (numbers_stay es h.1 i)
 
+-- keys stay so where tables grow
+pub keys_still : {V : Type 0} (old terms : List (Term × ℕ)) (before predicates : List (List ℕ)) → Begins old terms → Begins before predicates → (entries : List (Key × V))
+    → AreKeysIn old before entries → AreKeysIn terms predicates entries
+keys_still old terms before predicates b d entries h = subst (λ ts. AreKeysIn ts predicates entries) (sym b.1) (subst (λ ps. AreKeysIn (old ++ b.0) ps entries) (sym d.1) (keys_in_grown old b.0 before d.0 entries h))
+
+-- a new term stands behind the others
+pub term_place : (terms : List (Term × ℕ)) (x : Term) (n : ℕ) → number_of terms x ≡ None → place_in (terms ++ (x, n) ∷ []) x ≡ Some (length terms)
+term_place terms x n none =
+    ap (position (same_term x)) (keys_push terms x n)
+    ∙ position_push (same_term x) (keys_of terms) x (term_same x) (sym (is_some-lookup (same_term x) terms) ∙ ap is_some none)
+    ∙ ap Some (length-map terms (λ e. e.0))
+
 -- one more key, and one more triple beside it
-abbrev or_value : {V : Type 0} → Option V → Option V → Option V
+abbrev pub or_value : {V : Type 0} → Option V → Option V → Option V
 or_value None o = o
 or_value (Some v) o = Some v
 
-lookup_behind : {K V : Type 0} (p : K → Bool) (es : List (K × V)) (k : K) (v : V) → lookup p (es ++ (k, v) ∷ []) ≡ or_value (lookup p es) (cond (p k) (Some v) None)
+pub lookup_behind : {K V : Type 0} (p : K → Bool) (es : List (K × V)) (k : K) (v : V) → lookup p (es ++ (k, v) ∷ []) ≡ or_value (lookup p es) (cond (p k) (Some v) None)
 lookup_behind p [] k v = refl
 lookup_behind p (e ∷ es) k v = by (p e.0) (lookup_behind p es k v)
   where
@@ -197,7 +184,7 @@ pub pushed_alike : {K L V : Type 0} (p : K → Bool) (q : L → Bool) (es : List
     → lookup p (es ++ (k, v) ∷ []) ≡ lookup q (fs ++ (l, v) ∷ [])
 pushed_alike p q es fs k l v h e = lookup_behind p es k v ∙ (λ i. or_value (h i) (cond (e i) (Some v) None)) ∙ sym (lookup_behind q fs l v)
 
-or_none : {X : Type 0} (o : Option X) → or_value o None ≡ o
+pub or_none : {X : Type 0} (o : Option X) → or_value o None ≡ o
 or_none None = refl
 or_none (Some w) = refl
 

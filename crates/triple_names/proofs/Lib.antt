@@ -3,8 +3,12 @@ pub mod NumberLaws
 pub mod ImageSteps
 pub mod InsertKept
 pub mod DeleteKept
+pub mod SameNames
 pub mod HistoryLaws
 pub mod PlaceLaws
 pub mod KeyLaws
+pub mod TableLaws
+pub mod StagedLaws
+pub mod NotedLaws
 pub mod NeighbourLaws
 pub mod Examples

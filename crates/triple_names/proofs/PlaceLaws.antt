@@ -1,5 +1,5 @@
 -- Where the first element that passes a test stands.
-use Rattle.std.proofs.Common.{◌≡◌, ℕ, zero, suc, ◌<◌, Bool, true, false, ◌&&◌, ◌||◌, cond, List, [], ◌∷◌, ◌++◌, length, Option, Some, None, option_map, refl, sym, ap, ◌∙◌, arith, true≢false, get_or}
+use Rattle.std.proofs.Common.{◌≡◌, ℕ, zero, suc, ◌<◌, Bool, true, false, ◌&&◌, ◌||◌, cond, List, [], ◌∷◌, ◌++◌, length, Option, Some, None, option_map, refl, sym, ap, ◌∙◌, arith, true≢false, get_or, append-nil, append_assoc}
 use Rattle.indexmap.specs.IndexSet.{insert_key}
 use Rattle.std.specs.Prelude.{if◌then◌else◌, not, is_some, nat_eq, position, bytes_eq}
 use Rattle.std.specs.List.{list_any}
@@ -9,10 +9,17 @@ use Rattle.std.proofs.lemmas.List.{map-append}
 use Rattle.std.proofs.lemmas.List.Quantifiers.{position-Some}
 use Rattle.std.proofs.lemmas.Option.{unwrap_or-slice_get}
 use Rattle.change_spec.specs.Steps.{Step, node}
+use Rattle.term_table.specs.Entries.{Begins}
 use Rattle.term_table.proofs.Positions.{position-cons}
 use Rattle.triple_names.specs.Items.{predicate_label}
 use Rattle.triple_names.specs.TableIndexes.{stands, AddLabels, predicate_at, with_predicate}
 use Rattle.term_table.proofs.SameTerms.{same_bytes}
+
+pub begins_same : {X : Type 0} (xs : List X) → Begins xs xs
+begins_same xs = ([], sym (append-nil xs))
+
+pub begins_trans : {X : Type 0} (xs ys zs : List X) → Begins xs ys → Begins ys zs → Begins xs zs
+begins_trans xs ys zs h k = (h.0 ++ k.0, k.1 ∙ ap (λ l. l ++ k.0) h.1 ∙ append_assoc xs h.0 k.0)
 
 -- whether the place is this one
 abbrev pub is_at : Option ℕ → ℕ → Bool

@@ -5,7 +5,7 @@ use Rattle.graph_spec.specs.Graphs.{Graph}
 use Rattle.change_spec.specs.Steps.{Step, apply}
 use Rattle.triples_read.specs.Canonical.{IsSpelled}
 use Rattle.triples_read.specs.declared.term.Triple.{Triple}
-use Rattle.triple_names.specs.Names.{Names}
+use Rattle.triple_names.specs.Names.{Names, AreSameNames}
 use Rattle.triple_names.specs.TripleChanges.{insert_steps, placed_in, noted, delete_change}
 use Rattle.triple_names.specs.Represented.{with_triple, without_triple}
 
@@ -15,11 +15,11 @@ pub data Edit : Type 0 where
 
 -- an insert is accepted and leaves this graph; its numbers are noted
 abbrev pub Inserts : Limits → Triple → Graph → Names → Graph → Names → Type 0
-Inserts limits t g n h k = IsSpelled t × (apply (insert_steps n g t) g limits ≡ Ok h) × (k ≡ noted t (placed_in n g t) n)
+Inserts limits t g n h k = IsSpelled t × (apply (insert_steps n g t) g limits ≡ Ok h) × AreSameNames k (noted t (placed_in n g t) n)
 
 -- a triple that is there is deleted, which leaves this graph; the names stay
 abbrev pub Deletes : Limits → Triple → Graph → Names → Graph → Names → Type 0
-Deletes limits t g n h k = (c : List Step) × (delete_change n g t ≡ Some c) × (apply c g limits ≡ Ok h) × (k ≡ n)
+Deletes limits t g n h k = (c : List Step) × (delete_change n g t ≡ Some c) × (apply c g limits ≡ Ok h) × AreSameNames k n
 
 abbrev pub Edits : Limits → Edit → Graph → Names → Graph → Names → Type 0
 Edits limits (insert t) g n h k = Inserts limits t g n h k
@@ -27,7 +27,7 @@ Edits limits (delete t) g n h k = Deletes limits t g n h k
 
 -- one after the other
 abbrev pub EditsAll : Limits → List Edit → Graph → Names → Graph → Names → Type 0
-EditsAll limits [] g n h k = (g ≡ h) × (n ≡ k)
+EditsAll limits [] g n h k = (g ≡ h) × AreSameNames k n
 EditsAll limits (e ∷ es) g n h k = (g2 : Graph) × (n2 : Names) × Edits limits e g n g2 n2 × EditsAll limits es g2 n2 h k
 
 -- the triples that are present after an edit, and after all of them

@@ -2,6 +2,7 @@ pub mod Items
 pub mod Names
 pub mod NameCodes
 pub mod TableIndexes
+pub mod NameTables
 pub mod TripleChanges
 pub mod Represented
 pub mod Histories

@@ -1,5 +1,5 @@
 -- The numbers of terms and of triples.
-use Rattle.std.specs.Prelude.{ℕ, Bool, List, [], ◌∷◌, Option, Some, None, if◌then◌else◌}
+use Rattle.std.specs.Prelude.{◌≡◌, ℕ, Bool, List, [], ◌∷◌, Option, Some, None, if◌then◌else◌}
 use Rattle.std.specs.Map.{lookup}
 use Rattle.graph_spec.specs.Graphs.{Graph, is_live}
 use Rattle.triples_read.specs.declared.term.Term.{Term}
@@ -23,6 +23,10 @@ abbrev pub number_in : Names → Item → Option ℕ
 number_in n (of_term x) = number_of n.terms x
 number_in n (of_triple t) = triple_number n.triples t
 
+-- each term and each triple has the same number, or none, in both
+abbrev pub AreSameNames : Names → Names → Type 0
+AreSameNames n k = (p : Item) → number_in n p ≡ number_in k p
+
 -- the number, where it is that of a live node
 abbrev pub if_live : Graph → Option ℕ → Option ℕ
 if_live g None = None
@@ -36,3 +40,8 @@ node_there n g p = if_live g (number_in n p)
 abbrev pub with_number : {X : Type 0} → (X → Bool) → X → ℕ → List (X × ℕ) → List (X × ℕ)
 with_number same x n [] = (x, n) ∷ []
 with_number same x n (e ∷ es) = if same e.0 then ((e.0, n) ∷ es) else (e ∷ with_number same x n es)
+
+-- the names, and the triples whose numbers can be noted with no more memory
+pub record ReservedNames : Type 0 where
+  pub names : Names
+  pub reserved : List Triple

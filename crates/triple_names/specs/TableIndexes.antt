@@ -1,5 +1,5 @@
 -- Where terms and predicates stand in their tables, and the triples whose parts stand there.
-use Rattle.std.specs.Prelude.{◌≡◌, ℕ, zero, suc, Bool, false, not, ◌&&◌, List, [], ◌∷◌, ◌++◌, map, slice_get, unwrap_or, position, bytes_eq, nat_eq, Some, if◌then◌else◌}
+use Rattle.std.specs.Prelude.{◌≡◌, ℕ, zero, suc, Bool, false, not, ◌&&◌, List, [], ◌∷◌, ◌++◌, slice_get, unwrap_or, position, bytes_eq, nat_eq, Some, if◌then◌else◌}
 use Rattle.std.specs.List.{list_any, AllByRecursion}
 use Rattle.std.specs.Map.{keys_of}
 use Rattle.change_spec.specs.Steps.{Step, node}
@@ -9,7 +9,6 @@ use Rattle.triples_read.specs.declared.term.Triple.{Triple}
 use Rattle.triple_names.specs.declared.triple_table.Key.{Key}
 use Rattle.triple_names.specs.Items.{predicate_label}
 use Rattle.term_table.specs.Terms.{same_term, place_in}
-use Rattle.triple_names.specs.Names.{Names}
 
 abbrev pub term_at : List (Term × ℕ) → ℕ → Term
 term_at terms place = unwrap_or (slice_get (keys_of terms) place) (Iri [])
@@ -50,9 +49,15 @@ pub record IsKeyIn (terms : List (Term × ℕ)) (predicates : List (List ℕ)) (
   pub predicate : position (bytes_eq (predicate_at predicates k.predicate)) predicates ≡ Some k.predicate
   pub object : place_in terms (term_at terms k.object) ≡ Some k.object
 
-abbrev pub AreKeysIn : List (Term × ℕ) → List (List ℕ) → List (Key × ℕ) → Type 0
+abbrev pub AreKeysIn : {V : Type 0} → List (Term × ℕ) → List (List ℕ) → List (Key × V) → Type 0
 AreKeysIn terms predicates entries = AllByRecursion (λ e. IsKeyIn terms predicates e.0) entries
 
--- the numbers of the terms, and of the triples with these keys
-abbrev pub names_by : List (Term × ℕ) → List (List ℕ) → List (Key × ℕ) → Names
-names_by terms predicates entries = record { terms = terms; triples = map (λ e. (triple_at terms predicates e.0, e.1)) entries }
+-- the parts of the triple stand at the places of the key
+pub record HasKey (terms : List (Term × ℕ)) (predicates : List (List ℕ)) (t : Triple) (k : Key) : Type 0 where
+  pub subject : place_in terms t.subject ≡ Some k.subject
+  pub predicate : position (bytes_eq t.predicate) predicates ≡ Some k.predicate
+  pub object : place_in terms t.object ≡ Some k.object
+
+-- no key is that of the triple
+abbrev pub LacksKey : List (Term × ℕ) → List (List ℕ) → Triple → Type 0
+LacksKey terms predicates t = (ks : List Key) → list_any (is_key_of terms predicates t) ks ≡ false

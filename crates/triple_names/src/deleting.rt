@@ -99,8 +99,8 @@ pub fn delete_change(
     graph: &Graph,
     triple: &Triple,
 ) -> Result<Change, DeleteError>
-    ensures change { IfOk result (λ c. delete_change names.now graph.now.graph triple.now ≡ Some c) }
-    ensures absent { IsErrOf result DeleteError.NoNode → delete_change names.now graph.now.graph triple.now ≡ None }
+    ensures change { IfOk result (λ c. delete_change names.now.names graph.now.graph triple.now ≡ Some c) }
+    ensures absent { IsErrOf result DeleteError.NoNode → delete_change names.now.names graph.now.graph triple.now ≡ None }
 {
     let Some(node) = triple_node(names, graph, triple) else {
         return Err(DeleteError::NoNode);

@@ -42,14 +42,14 @@ pub(crate) fn if_live(graph: &Graph, number: Option<NodeId>) -> Option<NodeId>
 
 /// The node of a term, where it is there.
 pub(crate) fn term_node(names: &Names, graph: &Graph, term: &Term) -> Option<NodeId>
-    ensures { result ≡ node_there names.now graph.now.graph (of_term term.now) }
+    ensures { result ≡ node_there names.now.names graph.now.graph (of_term term.now) }
 {
     if_live(graph, names.term(term))
 }
 
 /// The node of a triple, where it is there.
 pub(crate) fn triple_node(names: &Names, graph: &Graph, triple: &Triple) -> Option<NodeId>
-    ensures { result ≡ node_there names.now graph.now.graph (of_triple triple.now) }
+    ensures { result ≡ node_there names.now.names graph.now.graph (of_triple triple.now) }
 {
     if_live(graph, names.triple(triple))
 }
@@ -84,7 +84,7 @@ fn behind(there: Option<NodeId>, next: NodeId) -> NodeId
 
 // The node of the object: that of the subject, where they are one term.
 fn object_node(names: &Names, graph: &Graph, triple: &Triple, subject: NodeId) -> Option<NodeId>
-    ensures { result ≡ object_there names.now graph.now.graph triple.now subject }
+    ensures { result ≡ object_there names.now.names graph.now.graph triple.now subject }
 {
     if is_same(&triple.object, &triple.subject) {
         Some(subject)
@@ -95,9 +95,9 @@ fn object_node(names: &Names, graph: &Graph, triple: &Triple, subject: NodeId) -
 
 // The parts that are there.
 fn find_parts(names: &Names, graph: &Graph, triple: &Triple) -> Parts
-    ensures subject { result.subject ≡ node_there names.now graph.now.graph (of_term triple.now.subject) }
-    ensures triple { result.triple ≡ node_there names.now graph.now.graph (of_triple triple.now) }
-    ensures object { result.object ≡ object_there names.now graph.now.graph triple.now (placed_in names.now graph.now.graph triple.now).subject }
+    ensures subject { result.subject ≡ node_there names.now.names graph.now.graph (of_term triple.now.subject) }
+    ensures triple { result.triple ≡ node_there names.now.names graph.now.graph (of_triple triple.now) }
+    ensures object { result.object ≡ object_there names.now.names graph.now.graph triple.now (placed_in names.now.names graph.now.graph triple.now).subject }
 {
     let subject = term_node(names, graph, &triple.subject);
     let first = given(subject, graph.created());
@@ -213,8 +213,8 @@ pub fn insert_change(
     graph: &Graph,
     triple: &Triple,
 ) -> Result<(Change, Placed), Memory>
-    ensures change { IfOk result (λ r. r.0 ≡ insert_steps names.now graph.now.graph triple.now) }
-    ensures placed { IfOk result (λ r. r.1 ≡ placed_in names.now graph.now.graph triple.now) }
+    ensures change { IfOk result (λ r. r.0 ≡ insert_steps names.now.names graph.now.graph triple.now) }
+    ensures placed { IfOk result (λ r. r.1 ≡ placed_in names.now.names graph.now.graph triple.now) }
 {
     let parts = find_parts(names, graph, triple);
     let placed = place(&parts, graph.created());

@@ -1,5 +1,5 @@
 // The predicates of the triples that are loaded.
-ghost use Rattle.std.specs.Prelude.{◌≡◌, ◌<◌, ◌^◌, ◌++◌, ◌∷◌, [], length, position, bytes_eq, Some, None, OnOk, IfOk, IfSome, false, true};
+ghost use Rattle.std.specs.Prelude.{◌≡◌, ◌<◌, ◌^◌, ◌++◌, ◌∷◌, [], length, position, bytes_eq, Some, None, OnOk, OnErr, IfOk, IfSome, false, true};
 ghost use Rattle.std.specs.List.{list_any};
 ghost use Rattle.change_spec.specs.Steps.{node};
 ghost use Rattle.triple_names.specs.Items.{predicate_label};
@@ -101,7 +101,8 @@ impl Predicates {
     fn add(&mut self, alloc: Global, iri: Text) -> Result<(), Memory>
         requires few { length self.old < 2 ^ 30 }
         requires absent { list_any (bytes_eq iri) self.old ≡ false }
-        ensures { OnOk result (self.new ≡ self.old ++ iri ∷ []) }
+        ensures added { OnOk result (self.new ≡ self.old ++ iri ∷ []) }
+        ensures err { OnErr result (self.new ≡ self.old) }
     {
         let node = node_by(alloc, &iri)?;
         self.table.insert(iri, node)?;
@@ -113,6 +114,7 @@ impl Predicates {
         requires few { length self.old < 2 ^ 30 }
         requires found { IfSome found (λ p. position (bytes_eq iri.now) self.old ≡ Some p) }
         ensures added { OnOk result (self.new ≡ with_predicate self.old iri.now) }
+        ensures err { OnErr result (self.new ≡ self.old) }
         ensures place { IfOk result (λ p. position (bytes_eq iri.now) self.new ≡ Some p) }
         ensures at { IfOk result (λ p. predicate_at self.new p ≡ iri.now) }
     {

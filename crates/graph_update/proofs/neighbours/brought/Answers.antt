@@ -1,9 +1,9 @@
-use Rattle.std.proofs.Common.{◌∙◌, ap, sym, false, take, List}
+use Rattle.std.proofs.Common.{◌∙◌, ap, sym, false, take, List, [], ◌∷◌}
 use Rattle.change_spec.specs.Shown.{edge_after, edge_by}
 use Rattle.graph_steps.specs.StepLists.{step_of, steps_of}
 use Rattle.graph_steps.specs.declared.changes.Step.{Step as Asked}
 use Rattle.graph_steps.proofs.FrontSteps.{more_at, all_taken}
-use Rattle.graph_update.proofs.ShownLaws.{edge_more}
+use Rattle.graph_update.proofs.ShownLaws.{edge_joined}
 use Rattle.graph_update.proofs.neighbours.brought.Goals as goal
 
 pub loop-i-preserved : goal.loop-i-preserved
@@ -12,7 +12,7 @@ loop-i-preserved c =
     let i = c.loop-i.i in
     let s = c.index-steps-i.result in
     c.edge_behind-present.ensures ∙ ap (edge_by (step_of s) c.args.p c.args.n) c.loop-i.invariant
-    ∙ sym (edge_more (steps_of (take i ss)) (step_of s) c.args.p c.args.n false)
+    ∙ sym (edge_joined (steps_of (take i ss)) (step_of s ∷ []) c.args.p c.args.n false)
     ∙ ap (λ k. edge_after k c.args.p c.args.n false) (sym (more_at ss i s c.loop-i-test.true c.index-steps-i.is))
 
 pub returns : goal.returns

@@ -1,13 +1,9 @@
-use Rattle.std.proofs.Common.{◌≡◌, ◌≤◌, ◌+◌, length}
-use Rattle.graph_steps.specs.StepLists.{steps_of}
+use Rattle.std.proofs.Common.{◌≡◌, ◌≤◌, ◌+◌, length, drop}
 use Rattle.graph_update.specs.ShownNeighbours.{new_at}
 use Rattle.graph_update.proofs.neighbours.count_new.Given as goal
 
-abbrev pub invariant-loop-step : goal.invariant-loop-step
-invariant-loop-step l = record {
-  count : l.count + length (new_at l.side (steps_of l.left) l.n) ≡ length (new_at l.side (steps_of l.steps) l.n);
-  few : l.count + length l.left ≤ 1024;
+abbrev pub invariant-loop-i : goal.invariant-loop-i
+invariant-loop-i l = record {
+  count : l.count + length (new_at l.side (drop l.i l.change) l.n) ≡ length (new_at l.side l.change l.n);
+  few : l.count ≤ l.i;
 }
-
-abbrev pub decreases-loop-step : goal.decreases-loop-step
-decreases-loop-step l = length l.left

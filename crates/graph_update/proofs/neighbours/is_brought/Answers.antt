@@ -1,8 +1,7 @@
-use Rattle.std.proofs.Common.{◌∙◌, sym}
-use Rattle.graph_update.proofs.ShownLaws.{unnamed_brings, not_named}
+use Rattle.std.proofs.Common.{◌∙◌}
+use Rattle.graph_steps.specs.StepLists.{steps_of}
+use Rattle.graph_update.proofs.NamedParts.{part_brings}
 use Rattle.graph_update.proofs.neighbours.is_brought.Goals as goal
 
-pub returns-else-may_name : goal.returns-else-may_name
-returns-else-may_name c =
-    c.if-may_name.false
-    ∙ sym (unnamed_brings c.args.side c.args.change.now c.args.n c.args.m (not_named c.args.change.now c.args.m c.may_name.result c.may_name.ensures.named c.if-may_name.false) c.requires)
+pub returns : goal.returns
+returns c = c.brought_at.ensures ∙ part_brings c.args.side c.args.change.now (steps_of c.naming.result.now) c.args.n c.args.m c.naming.ensures c.requires

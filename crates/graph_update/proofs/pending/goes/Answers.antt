@@ -1,8 +1,7 @@
-use Rattle.std.proofs.Common.{◌∙◌, sym}
-use Rattle.change_spec.proofs.NamedNodes.{unnamed_stays}
-use Rattle.graph_update.proofs.ShownLaws.{not_named}
+use Rattle.std.proofs.Common.{◌∙◌}
+use Rattle.graph_steps.specs.StepLists.{steps_of}
+use Rattle.graph_update.proofs.NamedParts.{part_dropped}
 use Rattle.graph_update.proofs.pending.goes.Goals as goal
 
-pub returns-else-may_name : goal.returns-else-may_name
-returns-else-may_name c =
-    c.if-may_name.false ∙ sym (unnamed_stays c.args.change.now c.args.n (not_named c.args.change.now c.args.n c.may_name.result c.may_name.ensures.named c.if-may_name.false))
+pub returns : goal.returns
+returns c = c.is_dropped.ensures ∙ part_dropped c.args.change.now (steps_of c.naming.result.now) c.args.n c.naming.ensures

@@ -1,10 +1,11 @@
 use Rattle.std.proofs.Common.{ℕ, ◌<◌, List, IsSome, length, sym, subst}
 use Rattle.graph_spec.specs.Members.{at}
 use Rattle.graph_update.specs.PendingChanges.{graph_after}
+use Rattle.graph_effects.proofs.ListedEffects.{pair_is, lost_begins, lost_ends}
 use Rattle.ak_family.specs.LevelDrafts.{blocks_shown}
 use Rattle.level_update.specs.LevelEffects.{HaveSupport, IsEdgeLowered}
 use Rattle.level_update.proofs.Bases.{bases}
-use Rattle.level_update.proofs.EffectLevels.{old_some, lost_from, lost_onto, lost_some, way_lowered, same_next, pair_is}
+use Rattle.level_update.proofs.EffectLevels.{old_some, lost_some, way_lowered, same_next}
 use Rattle.level_update.proofs.counting.lower_edges.Goals as goal
 
 pub lower_edge-requires-clause-from : goal.lower_edge-requires-clause-from
@@ -14,7 +15,7 @@ lower_edge-requires-clause-from c =
     let base = bases c.args.after.now.before c.args.family.now c.requires.before.graph c.requires.before.fits c.requires.before.family in
     subst (λ (p : ℕ × ℕ). IsSome (at (blocks_shown c.args.family.now c.lowers.draft c.args.i) p.0)) (sym pair)
     (old_some c.args.after.now.before (graph_after c.args.after.now) _ c.args.effects.now c.args.family.now c.lowers.draft c.args.i _ c.requires.effects base c.requires.level
-    (lost_from c.args.after.now.before (graph_after c.args.after.now) c.args.effects.now c.lowers.edge-index c.requires.effects c.requires.before.graph below) c.lowers.invariant.way)
+    (lost_begins c.args.after.now.before (graph_after c.args.after.now) c.args.effects.now c.lowers.edge-index c.requires.effects c.requires.before.graph below) c.lowers.invariant.way)
 
 pub lower_edge-requires-clause-onto : goal.lower_edge-requires-clause-onto
 lower_edge-requires-clause-onto c =
@@ -23,7 +24,7 @@ lower_edge-requires-clause-onto c =
     let base = bases c.args.after.now.before c.args.family.now c.requires.before.graph c.requires.before.fits c.requires.before.family in
     subst (λ (p : ℕ × ℕ). IsSome (at (blocks_shown c.args.family.now c.lowers.draft c.args.i) p.1)) (sym pair)
     (old_some c.args.after.now.before (graph_after c.args.after.now) _ c.args.effects.now c.args.family.now c.lowers.draft c.args.i _ c.requires.effects base c.requires.level
-    (lost_onto c.args.after.now.before (graph_after c.args.after.now) c.args.effects.now c.lowers.edge-index c.requires.effects c.requires.before.graph below) c.lowers.invariant.way)
+    (lost_ends c.args.after.now.before (graph_after c.args.after.now) c.args.effects.now c.lowers.edge-index c.requires.effects c.requires.before.graph below) c.lowers.invariant.way)
 
 pub lower_edge-requires-clause-some : goal.lower_edge-requires-clause-some
 lower_edge-requires-clause-some c =

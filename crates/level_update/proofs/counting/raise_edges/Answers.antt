@@ -1,10 +1,11 @@
 use Rattle.std.proofs.Common.{ℕ, ◌<◌, List, IsSome, length, sym, subst}
 use Rattle.graph_spec.specs.Members.{at}
 use Rattle.graph_update.specs.PendingChanges.{graph_after}
+use Rattle.graph_effects.proofs.ListedEffects.{pair_is, added_begins, added_ends}
 use Rattle.ak_family.specs.LevelDrafts.{blocks_shown}
 use Rattle.level_update.specs.LevelEffects.{IsEdgeRaised}
 use Rattle.level_update.proofs.Bases.{bases}
-use Rattle.level_update.proofs.EffectLevels.{new_some, added_from, added_onto, added_few, way_raised, same_next, pair_is}
+use Rattle.level_update.proofs.EffectLevels.{new_some, added_few, way_raised, same_next}
 use Rattle.level_update.proofs.counting.raise_edges.Goals as goal
 
 pub raise_edge-requires-clause-from : goal.raise_edge-requires-clause-from
@@ -14,7 +15,7 @@ raise_edge-requires-clause-from c =
     let base = bases c.args.after.now.before c.args.family.now c.requires.before.graph c.requires.before.fits c.requires.before.family in
     subst (λ (p : ℕ × ℕ). IsSome (at (blocks_shown c.args.family.now c.raises.draft c.args.i) p.0)) (sym pair)
     (new_some c.args.after.now.before (graph_after c.args.after.now) _ c.args.effects.now c.args.family.now c.raises.draft c.args.i _ c.requires.effects base c.requires.level
-    (added_from c.args.after.now.before (graph_after c.args.after.now) c.args.effects.now c.raises.edge-index c.requires.effects c.requires.before.graph_after below) c.raises.invariant.way)
+    (added_begins c.args.after.now.before (graph_after c.args.after.now) c.args.effects.now c.raises.edge-index c.requires.effects c.requires.before.graph_after below) c.raises.invariant.way)
 
 pub raise_edge-requires-clause-onto : goal.raise_edge-requires-clause-onto
 raise_edge-requires-clause-onto c =
@@ -23,7 +24,7 @@ raise_edge-requires-clause-onto c =
     let base = bases c.args.after.now.before c.args.family.now c.requires.before.graph c.requires.before.fits c.requires.before.family in
     subst (λ (p : ℕ × ℕ). IsSome (at (blocks_shown c.args.family.now c.raises.draft c.args.i) p.1)) (sym pair)
     (new_some c.args.after.now.before (graph_after c.args.after.now) _ c.args.effects.now c.args.family.now c.raises.draft c.args.i _ c.requires.effects base c.requires.level
-    (added_onto c.args.after.now.before (graph_after c.args.after.now) c.args.effects.now c.raises.edge-index c.requires.effects c.requires.before.graph_after below) c.raises.invariant.way)
+    (added_ends c.args.after.now.before (graph_after c.args.after.now) c.args.effects.now c.raises.edge-index c.requires.effects c.requires.before.graph_after below) c.raises.invariant.way)
 
 pub raise_edge-requires-clause-few : goal.raise_edge-requires-clause-few
 raise_edge-requires-clause-few c =

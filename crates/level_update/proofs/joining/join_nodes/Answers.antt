@@ -1,7 +1,8 @@
 use Rattle.std.proofs.Common.{arith, [], ℕ, List, sym, subst, take, get_or}
 use Rattle.graph_update.specs.PendingChanges.{graph_after}
+use Rattle.graph_effects.proofs.ListedEffects.{came_live, came_dead, live_small, nodes_next}
 use Rattle.level_update.specs.LevelEffects.{lone_nodes, IsLevelOnWay}
-use Rattle.level_update.proofs.EffectLevels.{came_live, came_dead, own_some, own_labelled, below_same, same_next, live_small, nodes_next, way_joined}
+use Rattle.level_update.proofs.EffectLevels.{own_some, own_labelled, below_same, same_next, way_joined}
 use Rattle.level_update.proofs.joining.join_nodes.Goals as goal
 
 pub label-label-requires : goal.label-label-requires

@@ -1,8 +1,9 @@
 use Rattle.std.proofs.Common.{ℕ, List, sym, subst, take, get_or}
 use Rattle.graph_update.specs.PendingChanges.{graph_after}
 use Rattle.graph_effects.specs.Effects.{without_edges}
+use Rattle.graph_effects.proofs.ListedEffects.{gone_there, gone_small, nodes_next}
 use Rattle.level_update.specs.LevelEffects.{IsLevelOnWay}
-use Rattle.level_update.proofs.EffectLevels.{gone_there, gone_small, same_next, nodes_next, way_left}
+use Rattle.level_update.proofs.EffectLevels.{same_next, way_left}
 use Rattle.level_update.proofs.leaving.leave_nodes.Goals as goal
 
 pub leave_node-requires-clause-small : goal.leave_node-requires-clause-small

@@ -1,11 +1,12 @@
-use Rattle.std.proofs.Common.{◌+◌, ◌≤◌, ℕ, List, arith, sym, subst, ap, take, get_or}
+use Rattle.std.proofs.Common.{ℕ, List, arith, sym, subst, ap, take, get_or}
 use Rattle.std.specs.List.{sum_by}
 use Rattle.one_spec.proofs.Sums.{sum_first, sum_next}
 use Rattle.graph_update.specs.PendingChanges.{graph_after}
+use Rattle.graph_effects.proofs.ListedEffects.{relabelled_live, nodes_next}
 use Rattle.level_update.specs.LevelCosts.{place_cost}
 use Rattle.level_update.specs.LevelEffects.{lone_nodes, IsLevelRelabelled}
-use Rattle.level_update.proofs.EffectLevels.{own_some, own_labelled, below_same, same_next, nodes_next}
-use Rattle.level_update.proofs.RelabelledLevels.{relabelled_next, relabelled_live}
+use Rattle.level_update.proofs.EffectLevels.{own_some, own_labelled, below_same, same_next}
+use Rattle.level_update.proofs.RelabelledLevels.{relabelled_next}
 use Rattle.level_update.proofs.relabelling.relabel_nodes.Goals as goal
 
 pub label-label-requires : goal.label-label-requires

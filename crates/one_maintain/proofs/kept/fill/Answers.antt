@@ -6,5 +6,5 @@ use Rattle.one_maintain.proofs.kept.fill.Goals as goal
 pub returns-clause-shown : goal.returns-clause-shown
 returns-clause-shown g c =
     let old = c.args.base.now in
-    subst (λ (v : View). CoversShown (record old { blocks = record old.blocks { block_of = v.block_of; labels = v.labels }; supports = v.supports }) c.draft_change.new.draft c.note_touched.new.self)
-    (sym c.reserve.ensures.same) c.in_ok-note_touched.ensures.shown
+    subst (λ (v : View). CoversShown (record old { blocks = record old.blocks { block_of = v.block_of; labels = v.labels }; supports = v.supports }) c.draft_change.new.draft c.draft_change.new.parentless)
+    (sym c.reserve.ensures.same) c.in_ok-draft_change.ensures.shown

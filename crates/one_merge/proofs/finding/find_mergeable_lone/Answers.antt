@@ -1,7 +1,5 @@
 use Rattle.std.proofs.Common.{sym, subst}
-use Rattle.graph_spec.specs.Members.{at}
-use Rattle.bisim_spec.specs.IndexGraphs.{support_at}
-use Rattle.quotient_draft.specs.Drafts.{shown_labels, shown_blocks, shown_support}
+use Rattle.quotient_draft.specs.Drafts.{shown_support}
 use Rattle.one_merge.proofs.ParentlessLaws.{none_mergeable_lone, AreCandidates}
 use Rattle.one_merge.proofs.finding.find_mergeable_lone.Goals as goal
 
@@ -10,7 +8,6 @@ returns-clause-none c =
     let q = c.args.base.now in
     let d = c.args.draft.now in
     let found = c.in_ok-fill_candidates.ensures in
-    none_mergeable_lone c.find_among.result (shown_blocks q d) (at (shown_labels q d)) (at q.blocks.labels) (shown_support q d) (support_at q.supports) c.args.parentless.now c.args.a c.label.result
-    c.deref.result.now c.requires.lone c.label.ensures c.requires.covers
-    (subst (AreCandidates (at (shown_labels q d)) (at q.blocks.labels) (shown_support q d) (support_at q.supports) c.args.parentless.now c.args.a c.label.result) (sym c.deref.ensures.value)
-    (record { children = found.children; noted = found.noted; labels_are = found.labels; supports_are = found.supports })) c.find_among.ensures.none
+    none_mergeable_lone c.find_among.result q d c.args.parentless.now c.args.a c.label.result c.deref.result.now c.requires.lone c.label.ensures c.requires.covers
+    (subst (AreCandidates (shown_support q d) c.args.parentless.now c.args.a c.label.result) (sym c.deref.ensures.value)
+    (record { children = found.children; noted = found.noted })) c.find_among.ensures.none

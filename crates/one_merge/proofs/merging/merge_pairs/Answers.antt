@@ -6,12 +6,15 @@ use Rattle.one_merge.specs.MergeTests.{shown_adjacent}
 use Rattle.one_merge.specs.ShownMerges.{ShowsStablePartition, AreShownMergeable, AreShownMergeCandidates}
 use Rattle.one_merge.proofs.Counted.{fewer}
 use Rattle.one_merge.proofs.MergePairLaws.{merging_start, merged_more, merging_end, if_some, if_none}
+use Rattle.one_merge.proofs.ParentlessLaws.{covers_merged}
 use Rattle.one_merge.proofs.merging.merge_pairs.Goals as goal
 
 pub pairs-init : goal.pairs-init
 pairs-init c = record {
   over = c.requires.over;
   graph = c.requires.graph;
+  covers = c.requires.covers;
+  shown = c.requires.shown;
   merging = λ s v h.
       merging_start s (shown_blocks c.args.base.now c.args.draft.now) (at (shown_labels c.args.base.now c.args.draft.now)) (shown_adjacent c.args.base.now c.args.draft.now) c.args.merge_candidates.now v h;
   supports = λ g h. h;
@@ -36,6 +39,9 @@ pairs-preserved c =
     record {
       over = c.in_ok-merge_pair.ensures.over;
       graph = c.in_ok-merge_pair.ensures.graph;
+      covers = c.note_merged.ensures.base c.pairs.invariant.covers;
+      shown = covers_merged c.args.base.now c.pairs.draft c.merge_pair.new.draft c.pairs.parentless c.note_merged.new.self c.in-Some.a c.in-Some.b mergeable_pair.apart
+          c.in_ok-merge_pair.ensures.labels c.in_ok-merge_pair.ensures.merged c.in_ok-merge_pair.ensures.pairs c.pairs.invariant.shown c.in_ok-note_merged.ensures.others c.in_ok-note_merged.ensures.noted;
       merging = λ s v h.
           merged_more s (shown_blocks c.args.base.now c.args.draft.now) (shown_blocks c.args.base.now c.pairs.draft) (shown_blocks c.args.base.now c.merge_pair.new.draft)
           (at (shown_labels c.args.base.now c.pairs.draft)) (at (shown_labels c.args.base.now c.merge_pair.new.draft)) (shown_adjacent c.args.base.now c.pairs.draft)

@@ -1,7 +1,7 @@
 use Rattle.std.proofs.Common.{ℕ, ◌<◌, List, IsSome, length, subst, sym}
 use Rattle.graph_spec.specs.Members.{at}
 use Rattle.graph_update.specs.PendingChanges.{graph_after}
-use Rattle.one_update.proofs.ListedEffects.{pair_is, lost_begins, lost_ends}
+use Rattle.graph_effects.proofs.ListedEffects.{pair_is, lost_begins, lost_ends}
 use Rattle.quotient_draft.specs.Drafts.{shown_blocks}
 use Rattle.one_update.specs.EffectDrafts.{HaveSupport, IsPairLowered}
 use Rattle.one_update.proofs.IndexEffects.{index_base, index_old, index_some, index_lowered}

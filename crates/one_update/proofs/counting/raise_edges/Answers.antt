@@ -1,8 +1,8 @@
-use Rattle.std.proofs.Common.{ℕ, ◌<◌, ◌≤◌, ◌^◌, List, IsSome, length, arith, subst, sym}
+use Rattle.std.proofs.Common.{ℕ, ◌<◌, ◌≤◌, ◌^◌, List, IsSome, length, subst, sym}
 use Rattle.std.specs.FinSet as set
 use Rattle.graph_spec.specs.Members.{at}
 use Rattle.graph_update.specs.PendingChanges.{graph_after}
-use Rattle.one_update.proofs.ListedEffects.{pair_is, added_begins, added_ends}
+use Rattle.graph_effects.proofs.ListedEffects.{pair_is, added_begins, added_ends}
 use Rattle.quotient_draft.specs.Drafts.{shown_blocks}
 use Rattle.one_update.specs.EffectDrafts.{IsPairRaised}
 use Rattle.one_update.proofs.IndexEffects.{index_base, index_new, index_few, index_raised}

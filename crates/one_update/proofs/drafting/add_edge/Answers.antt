@@ -3,8 +3,8 @@ use Rattle.one_update.proofs.drafting.add_edge.Goals as goal
 
 pub returns-then-branch-clause-drafted : goal.returns-then-branch-clause-drafted
 returns-then-branch-clause-drafted g c =
-    link_still c.args.after.now c.args.index.now.base.now c.draft_link.new.draft c.args.u c.args.v c.requires.before c.requires.links c.in_ok-draft_link.ensures.alone
+    link_still c.args.after.now c.args.base.now c.draft_link.new.draft c.args.u c.args.v c.requires.before c.requires.links c.in_ok-draft_link.ensures.alone
     (c.in_ok-draft_link.ensures.yes c.if-branch.true) c.in_ok-draft_link.ensures.changed
 
 pub resettle-requires-clause-targets : goal.resettle-requires-clause-targets
-resettle-requires-clause-targets g c = link_found c.args.after.now c.args.index.now.base.now c.args.u c.args.v c.requires.before c.requires.links
+resettle-requires-clause-targets g c = link_found c.args.after.now c.args.base.now c.args.u c.args.v c.requires.before c.requires.links

@@ -6,5 +6,5 @@ use Rattle.one_update.proofs.drafting.draft_pending.Goals as goal
 
 pub draft_steps-requires-clause-moves : goal.draft_steps-requires-clause-moves
 draft_steps-requires-clause-moves g c =
-    many_move c.args.after.now.change (graph_after c.args.after.now) c.args.index.now.base.now.blocks.block_of
+    many_move c.args.after.now.change (graph_after c.args.after.now) c.args.base.now.blocks.block_of
     (λ e. c.in-None.ensures.none (ap (λ (xs : List Step). length xs) (c.steps.ensures ∙ sym c.requires.same) ∙ e))

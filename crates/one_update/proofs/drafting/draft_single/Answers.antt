@@ -9,17 +9,17 @@ use Rattle.one_update.proofs.drafting.draft_single.Goals as goal
 
 pub draft_steps-requires-clause-moves : goal.draft_steps-requires-clause-moves
 draft_steps-requires-clause-moves g c =
-    node_moves c.args.after.now.change c.in-Node.field-0 (graph_after c.args.after.now) c.args.index.now.base.now.blocks.block_of
+    node_moves c.args.after.now.change c.in-Node.field-0 (graph_after c.args.after.now) c.args.base.now.blocks.block_of
     (c.requires.single ∙ ap (λ (s : Asked). step_of s ∷ []) c.in-Node.is)
 
 pub draft_steps-requires-in-Drop-clause-moves : goal.draft_steps-requires-in-Drop-clause-moves
 draft_steps-requires-in-Drop-clause-moves g c =
-    drop_moves c.args.after.now.change c.in-Drop.field-0 (graph_after c.args.after.now) c.args.index.now.base.now.blocks.block_of
+    drop_moves c.args.after.now.change c.in-Drop.field-0 (graph_after c.args.after.now) c.args.base.now.blocks.block_of
     (c.requires.single ∙ ap (λ (s : Asked). step_of s ∷ []) c.in-Drop.is)
 
 pub draft_steps-requires-in-Relabel-clause-moves : goal.draft_steps-requires-in-Relabel-clause-moves
 draft_steps-requires-in-Relabel-clause-moves g c =
-    relabel_moves c.args.after.now.change c.in-Relabel.field-0 c.in-Relabel.field-1 (graph_after c.args.after.now) c.args.index.now.base.now.blocks.block_of
+    relabel_moves c.args.after.now.change c.in-Relabel.field-0 c.in-Relabel.field-1 (graph_after c.args.after.now) c.args.base.now.blocks.block_of
     (c.requires.single ∙ ap (λ (s : Asked). step_of s ∷ []) c.in-Relabel.is)
 
 pub add_edge-requires-clause-links : goal.add_edge-requires-clause-links
@@ -35,7 +35,7 @@ returns-in-Node-clause-free g c = λ u v e s.
 pub returns-in-Link-clause-free : goal.returns-in-Link-clause-free
 returns-in-Link-clause-free g c = λ u v e s.
     c.add_edge.ensures.free
-    (same_link c.args.after.now.change (view_of c.args.index.now.base.now) c.in-Link.u c.in-Link.v u v (c.requires.single ∙ ap (λ (s : Asked). step_of s ∷ []) c.in-Link.is) e s)
+    (same_link c.args.after.now.change (view_of c.args.base.now) c.in-Link.u c.in-Link.v u v (c.requires.single ∙ ap (λ (s : Asked). step_of s ∷ []) c.in-Link.is) e s)
 
 pub returns-in-Unlink-clause-free : goal.returns-in-Unlink-clause-free
 returns-in-Unlink-clause-free g c = λ u v e s.

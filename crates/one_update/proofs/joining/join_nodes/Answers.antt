@@ -1,6 +1,6 @@
 use Rattle.std.proofs.Common.{arith, [], List, ℕ, sym, subst, take, get_or}
 use Rattle.graph_update.specs.PendingChanges.{graph_after}
-use Rattle.one_update.proofs.ListedEffects.{came_live, came_dead, live_small, nodes_next}
+use Rattle.graph_effects.proofs.ListedEffects.{came_live, came_dead, live_small, nodes_next}
 use Rattle.one_update.specs.EffectDrafts.{IsIndexOnWay}
 use Rattle.one_update.proofs.IndexEffects.{index_joined}
 use Rattle.one_update.proofs.joining.join_nodes.Goals as goal

@@ -1,7 +1,7 @@
 use Rattle.std.proofs.Common.{ℕ, List, sym, subst, take, get_or}
 use Rattle.graph_update.specs.PendingChanges.{graph_after}
 use Rattle.graph_effects.specs.Effects.{without_edges}
-use Rattle.one_update.proofs.ListedEffects.{gone_there, gone_small, nodes_next}
+use Rattle.graph_effects.proofs.ListedEffects.{gone_there, gone_small, nodes_next}
 use Rattle.one_update.specs.EffectDrafts.{IsIndexOnWay}
 use Rattle.one_update.proofs.IndexEffects.{index_left}
 use Rattle.one_update.proofs.leaving.leave_nodes.Goals as goal

@@ -11,9 +11,9 @@ pub split-requires : goal.split-requires
 split-requires g c = record {
   over = c.requires.changed.over;
   once = c.requires.targets.once;
-  stable = stable_there c.args.after.now.before c.args.after.now.change c.args.targets.now c.args.index.now.base.now c.args.draft.now c.requires.before.graph c.requires.before.graph_after
+  stable = stable_there c.args.after.now.before c.args.after.now.change c.args.targets.now c.args.base.now c.args.draft.now c.requires.before.graph c.requires.before.graph_after
       c.requires.before.fits c.requires.targets c.requires.changed;
-  block_labels = labels_but_found c.args.after.now.before c.args.after.now.change c.args.targets.now c.args.index.now.base.now c.args.draft.now c.requires.targets c.requires.changed;
+  block_labels = labels_but_found c.args.after.now.before c.args.after.now.change c.args.targets.now c.args.base.now c.args.draft.now c.requires.targets c.requires.changed;
   none = c.new-blocks.ensures.items;
   supports = c.requires.changed.supports;
 }
@@ -40,14 +40,14 @@ returns-clause-cost g c =
 
 pub merge-requires-clause-graph : goal.merge-requires-clause-graph
 merge-requires-clause-graph g c =
-    has_graph (graph_after c.args.after.now) (shown_blocks c.args.index.now.base.now c.split.new.draft) (at (shown_labels c.args.index.now.base.now c.split.new.draft))
-    (shown_support c.args.index.now.base.now c.split.new.draft) c.in_ok-split.ensures.supports c.created-known.ensures.few_edges
+    has_graph (graph_after c.args.after.now) (shown_blocks c.args.base.now c.split.new.draft) (at (shown_labels c.args.base.now c.split.new.draft))
+    (shown_support c.args.base.now c.split.new.draft) c.in_ok-split.ensures.supports c.created-known.ensures.few_edges
     c.in_ok-split.ensures.block_labels
 
 pub returns-clause-drafted : goal.returns-clause-drafted
 returns-clause-drafted g c =
     let a = c.args.after.now in
-    let q = c.args.index.now.base.now in
+    let q = c.args.base.now in
     let added = subst (AreFirstCandidates (has c.args.targets.now) (shown_blocks q c.split.new.draft) c.split.new.made.items) (sym c.deref.ensures.value)
     (record { made_there = c.in_ok-add_blocks.ensures.kept; targets_there = c.in_ok-add_blocks.ensures.there }) in
     record {

@@ -23,7 +23,7 @@ returns-in-Err-Syntax-clause-complete g c =
     let line = c.in-Err-Syntax.line in
     refused_completes (settings_value c.args.settings.now) name files (syntax line) _ _ _ _ _ c.requires.named
     (subst (λ (m : Limits). LoadsObservable m files name (syntax line)) c.program.ensures (rw c.in-Err-Syntax.field-0-is at c.in-Err-Syntax.ensures.refused))
-    (no_syntax line) (subst OneOutcome c.program.ensures c.load.ensures.once)
+    (no_syntax line) (subst OneOutcome c.program.ensures c.load_named.ensures.once)
 
 pub returns-in-Err-Limit-clause-complete : goal.returns-in-Err-Limit-clause-complete
 returns-in-Err-Limit-clause-complete g c =
@@ -32,4 +32,4 @@ returns-in-Err-Limit-clause-complete g c =
     let line = c.in-Err-Limit.line in
     refused_completes (settings_value c.args.settings.now) name files (limit line) _ _ _ _ _ c.requires.named
     (subst (λ (m : Limits). LoadsObservable m files name (limit line)) c.program.ensures (rw c.in-Err-Limit.field-0-is at c.in-Err-Limit.ensures.refused))
-    (no_limit line) (subst OneOutcome c.program.ensures c.load.ensures.once)
+    (no_limit line) (subst OneOutcome c.program.ensures c.load_named.ensures.once)

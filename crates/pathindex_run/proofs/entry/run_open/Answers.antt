@@ -12,34 +12,34 @@ use Rattle.pathindex_run.proofs.entry.run_open.Goals as goal
 pub returns-in-Ok-clause-does : goal.returns-in-Ok-clause-does
 returns-in-Ok-clause-does g c kinds first =
     let found = rw c.in-Ok-true.field-0-test at c.in-Ok-true.ensures.found in
-    rw c.status_of.ensures (script_meets (settings_value c.args.settings.now) kinds (g.H.Shelf.files c.args.shelf.now) (state_in (by_meaning g.B.PathIndex.meaning c.args.engine.now)) _ _ _ _ c.requires.begins first
-    (observable_ran (state_in (by_meaning g.B.PathIndex.meaning c.args.engine.now)) c.args.settings.now.script.now (g.H.Shelf.files c.args.shelf.now) (g.H.Shelf.left c.open.new.self) _ _ c.in-Ok.ending _ found c.in-Ok.ensures.ran))
+    rw c.status_of.ensures (script_meets (settings_value c.args.settings.now) kinds (g.H.Shelf.files c.args.shelf.now) (state_in (by_meaning g.B.PathIndex.meaning c.args.engine.now) c.args.names.names) _ _ _ _ c.requires.begins first
+    (observable_ran (state_in (by_meaning g.B.PathIndex.meaning c.args.engine.now) c.args.names.names) c.args.settings.now.script.now (g.H.Shelf.files c.args.shelf.now) (g.H.Shelf.left c.open.new.self) _ _ c.in-Ok.ending _ found c.in-Ok.ensures.ran))
 
 pub returns-in-Ok-clause-complete : goal.returns-in-Ok-clause-complete
 returns-in-Ok-clause-complete g c =
     let found = rw c.in-Ok-true.field-0-test at c.in-Ok-true.ensures.found in
     let files = g.H.Shelf.files c.args.shelf.now in
     let status : HasStatus (runs (settings_value c.args.settings.now)) files (g.H.Shelf.faults c.args.shelf.now) (g.H.Shelf.faults c.run_lines.new.shelf) (g.K.Sink.faults c.args.sink.now) (g.K.Sink.faults c.run_lines.new.sink) (code_of c.status_of.result) = search rules in
-    script_completes (settings_value c.args.settings.now) files (state_in (by_meaning g.B.PathIndex.meaning c.args.engine.now)) (g.K.Sink.written c.args.sink.now) (g.K.Sink.written c.run_lines.new.sink) _ _ _ _ (code_of c.status_of.result) (IsIn (by_meaning g.B.PathIndex.meaning c.run_lines.new.engine))
-    (rw c.status_of.ensures (observable_ran (state_in (by_meaning g.B.PathIndex.meaning c.args.engine.now)) c.args.settings.now.script.now files (g.H.Shelf.left c.open.new.self) _ _ c.in-Ok.ending _ found c.in-Ok.ensures.ran)) status
+    script_completes (settings_value c.args.settings.now) files (state_in (by_meaning g.B.PathIndex.meaning c.args.engine.now) c.args.names.names) (g.K.Sink.written c.args.sink.now) (g.K.Sink.written c.run_lines.new.sink) _ _ _ _ (code_of c.status_of.result) (IsIn (by_meaning g.B.PathIndex.meaning c.run_lines.new.engine))
+    (rw c.status_of.ensures (observable_ran (state_in (by_meaning g.B.PathIndex.meaning c.args.engine.now) c.args.names.names) c.args.settings.now.script.now files (g.H.Shelf.left c.open.new.self) _ _ c.in-Ok.ending _ found c.in-Ok.ensures.ran)) status
 
 pub returns-in-Err-Shelf-clause-does : goal.returns-in-Err-Shelf-clause-does
 returns-in-Err-Shelf-clause-does g c kinds first =
     let found = rw c.in-Ok-true.field-0-test at c.in-Ok-true.ensures.found in
-    script_meets (settings_value c.args.settings.now) kinds (g.H.Shelf.files c.args.shelf.now) (state_in (by_meaning g.B.PathIndex.meaning c.args.engine.now)) _ _ 5 _ c.requires.begins first
-    (observable_part (state_in (by_meaning g.B.PathIndex.meaning c.args.engine.now)) c.args.settings.now.script.now (g.H.Shelf.files c.args.shelf.now) (g.H.Shelf.left c.open.new.self) _ _ 5 _ found (omega arith) c.in-Err-Shelf.ensures.part)
+    script_meets (settings_value c.args.settings.now) kinds (g.H.Shelf.files c.args.shelf.now) (state_in (by_meaning g.B.PathIndex.meaning c.args.engine.now) c.args.names.names) _ _ 5 _ c.requires.begins first
+    (observable_part (state_in (by_meaning g.B.PathIndex.meaning c.args.engine.now) c.args.names.names) c.args.settings.now.script.now (g.H.Shelf.files c.args.shelf.now) (g.H.Shelf.left c.open.new.self) _ _ 5 _ found (omega arith) c.in-Err-Shelf.ensures.part)
 
 pub returns-in-Err-Sink-clause-does : goal.returns-in-Err-Sink-clause-does
 returns-in-Err-Sink-clause-does g c kinds first =
     let found = rw c.in-Ok-true.field-0-test at c.in-Ok-true.ensures.found in
-    script_meets (settings_value c.args.settings.now) kinds (g.H.Shelf.files c.args.shelf.now) (state_in (by_meaning g.B.PathIndex.meaning c.args.engine.now)) _ _ 6 _ c.requires.begins first
-    (observable_part (state_in (by_meaning g.B.PathIndex.meaning c.args.engine.now)) c.args.settings.now.script.now (g.H.Shelf.files c.args.shelf.now) (g.H.Shelf.left c.open.new.self) _ _ 6 _ found (omega arith) c.in-Err-Sink.ensures.part)
+    script_meets (settings_value c.args.settings.now) kinds (g.H.Shelf.files c.args.shelf.now) (state_in (by_meaning g.B.PathIndex.meaning c.args.engine.now) c.args.names.names) _ _ 6 _ c.requires.begins first
+    (observable_part (state_in (by_meaning g.B.PathIndex.meaning c.args.engine.now) c.args.names.names) c.args.settings.now.script.now (g.H.Shelf.files c.args.shelf.now) (g.H.Shelf.left c.open.new.self) _ _ 6 _ found (omega arith) c.in-Err-Sink.ensures.part)
 
 pub returns-in-Err-Memory-clause-does : goal.returns-in-Err-Memory-clause-does
 returns-in-Err-Memory-clause-does g c kinds first =
     let found = rw c.in-Ok-true.field-0-test at c.in-Ok-true.ensures.found in
-    script_meets (settings_value c.args.settings.now) kinds (g.H.Shelf.files c.args.shelf.now) (state_in (by_meaning g.B.PathIndex.meaning c.args.engine.now)) _ _ 7 _ c.requires.begins first
-    (observable_part (state_in (by_meaning g.B.PathIndex.meaning c.args.engine.now)) c.args.settings.now.script.now (g.H.Shelf.files c.args.shelf.now) (g.H.Shelf.left c.open.new.self) _ _ 7 _ found (omega arith) c.in-Err-Memory.ensures.part)
+    script_meets (settings_value c.args.settings.now) kinds (g.H.Shelf.files c.args.shelf.now) (state_in (by_meaning g.B.PathIndex.meaning c.args.engine.now) c.args.names.names) _ _ 7 _ c.requires.begins first
+    (observable_part (state_in (by_meaning g.B.PathIndex.meaning c.args.engine.now) c.args.names.names) c.args.settings.now.script.now (g.H.Shelf.files c.args.shelf.now) (g.H.Shelf.left c.open.new.self) _ _ 7 _ found (omega arith) c.in-Err-Memory.ensures.part)
 
 pub returns-in-Ok-false-clause-status : goal.returns-in-Ok-false-clause-status
 returns-in-Ok-false-clause-status g c =
@@ -50,7 +50,7 @@ returns-in-Ok-false-clause-status g c =
       usage = λ e. absurd (omega (arith, e));
       graph = λ e. absurd (omega (arith, e));
       reads = λ _. tt;
-      missing = λ _. inr (script_missing (settings_value c.args.settings.now) (g.H.Shelf.files c.args.shelf.now) (state_in (by_meaning g.B.PathIndex.meaning c.args.engine.now)).graph (g.H.Shelf.left c.open.new.self) c.requires.begins found);
+      missing = λ _. inr (script_missing (settings_value c.args.settings.now) (g.H.Shelf.files c.args.shelf.now) (state_in (by_meaning g.B.PathIndex.meaning c.args.engine.now) c.args.names.names).graph c.args.names.names (g.H.Shelf.left c.open.new.self) c.requires.begins found);
       sink = λ e. absurd (omega (arith, e));
       shelf_never_falls = omega (arith, same);
       sink_never_falls = omega arith;

@@ -10,14 +10,14 @@ use Rattle.pathindex_run.proofs.entry.run_script.Goals as goal
 
 pub run_open-requires-clause-begins : goal.run_open-requires-clause-begins
 run_open-requires-clause-begins g c =
-    subst (BeginsObservable (settings_value c.args.settings.now).graph (g.H.Shelf.files c.args.shelf.now)) (sym (ap graph_in c.in-Ok.ensures.opened)) c.requires.begins
+    subst (λ x. BeginsObservable (settings_value c.args.settings.now).graph (g.H.Shelf.files c.args.shelf.now) x c.args.names.names) (sym (ap graph_in c.in-Ok.ensures.opened)) c.requires.begins
 
 pub run_open-requires-clause-ready : goal.run_open-requires-clause-ready
 run_open-requires-clause-ready g c = record { sound = c.open.ensures.sound; opened = _; opened_is = c.in-Ok.ensures.opened; limits_are = c.program.ensures }
 
 pub returns-in-Ok-clause-does : goal.returns-in-Ok-clause-does
 returns-in-Ok-clause-does g c =
-    c.run_open.ensures.does _ (opened_for (settings_value c.args.settings.now) _ (by_meaning g.B.PathIndex.meaning c.leave_out-2.new.engine) _ _ c.in-Ok.ensures.opened c.in-Ok.ensures.built c.open.ensures.kinds c.open.ensures.sound
+    c.run_open.ensures.does _ (opened_for c.args.names.names (settings_value c.args.settings.now) _ (by_meaning g.B.PathIndex.meaning c.leave_out-2.new.engine) _ _ c.in-Ok.ensures.opened c.in-Ok.ensures.built c.open.ensures.kinds c.open.ensures.sound
     (c.leave_out-2.ensures.kinds ∙ ap (left_out c.args.settings.now.without_fb Fb) c.leave_out.ensures.kinds))
 
 pub returns-in-Err-clause-does : goal.returns-in-Err-clause-does

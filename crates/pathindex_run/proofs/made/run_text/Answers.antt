@@ -8,7 +8,7 @@ pub run_open-requires : goal.run_open-requires
 run_open-requires g c = record { ready = record { sound = c.open.ensures.sound; opened = _; opened_is = c.in-Ok.ensures.opened; limits_are = c.program.ensures } }
 
 pub returns-in-Ok-clause-does : goal.returns-in-Ok-clause-does
-returns-in-Ok-clause-does g c = inl (_, opened_with (by_meaning g.B.PathIndex.meaning c.args.engine.now) _ _ c.in-Ok.ensures.opened c.in-Ok.ensures.built c.open.ensures.kinds c.open.ensures.sound, c.run_open.ensures.does)
+returns-in-Ok-clause-does g c = inl (_, opened_with c.args.names.names (by_meaning g.B.PathIndex.meaning c.args.engine.now) _ _ c.in-Ok.ensures.opened c.in-Ok.ensures.built c.open.ensures.kinds c.open.ensures.sound, c.run_open.ensures.does)
 
 pub returns-in-Err-clause-does : goal.returns-in-Err-clause-does
 returns-in-Err-clause-does g c = inr (Keeps-refl (g.K.Sink.written c.args.sink.now), inr refl)

@@ -22,16 +22,16 @@ pub returns-in-Err-Memory-clause-ready : goal.returns-in-Err-Memory-clause-ready
 returns-in-Err-Memory-clause-ready g c = open_asked _ _ c.requires.ready c.ask.ensures.sound c.ask.ensures.asked
 
 pub returns-in_ok-text-in-Ok-clause-ok : goal.returns-in_ok-text-in-Ok-clause-ok
-returns-in_ok-text-in-Ok-clause-ok g c =
+returns-in_ok-text-in-Ok-clause-ok g c n =
     let a = c.in-Ok.answer in
     let old = c.args.output.now in
     let text = rw c.prints_nodes.ensures at c.in_ok-text-in-Ok.ensures in
     on_ok_weaker c.push.result
-    (λ p. query_obeyed _ _ c.args.via (query_of c.args.query.now) (answer_text a.how (prints_nodes old.printing) a.nodes.members) false old _ c.ask.ensures.asked
+    (λ p. query_obeyed n _ _ c.args.via (query_of c.args.query.now) (answer_text a.how (prints_nodes old.printing) a.nodes.members) false old _ c.ask.ensures.asked
     (answered c.args.via a.how a.nodes.members c.in-Ok.ensures.queried.answered) (rw (c.as_bytes.ensures.bytes, text) at p)) c.push.ensures.ok
 
 pub returns-in-Err-NoIndex-clause-ok : goal.returns-in-Err-NoIndex-clause-ok
-returns-in-Err-NoIndex-clause-ok g c =
-    let n = c.in-Err-NoIndex.ensures.queried.no_index.0 (ap Err c.in-Err-NoIndex.field-0-is) in
+returns-in-Err-NoIndex-clause-ok g c n =
+    let none = c.in-Err-NoIndex.ensures.queried.no_index.0 (ap Err c.in-Err-NoIndex.field-0-is) in
     on_ok_weaker c.refuse.result
-    (λ t. query_obeyed _ _ c.args.via (query_of c.args.query.now) (refused_line NoIndex) true _ _ c.ask.ensures.asked (not_asked c.args.via n.0 n.1) t) c.refuse.ensures.ok
+    (λ t. query_obeyed n _ _ c.args.via (query_of c.args.query.now) (refused_line NoIndex) true _ _ c.ask.ensures.asked (not_asked c.args.via none.0 none.1) t) c.refuse.ensures.ok

@@ -7,11 +7,11 @@ use Rattle.script_interpreter.proofs.WalkCalls.{dead_obeyed}
 use Rattle.script_interpreter.proofs.interpreter.explain.Goals as goal
 
 pub returns-then-is_live-clause-ok : goal.returns-then-is_live-clause-ok
-returns-then-is_live-clause-ok g c =
-    on_ok_weaker c.show_walk.result (λ f. f (state_in (by_meaning g.B.PathIndex.meaning c.args.engine.now)) (sym c.graph-graph.ensures)) c.show_walk.ensures.ok
+returns-then-is_live-clause-ok g c n =
+    on_ok_weaker c.show_walk.result (λ f. f (state_in (by_meaning g.B.PathIndex.meaning c.args.engine.now) n) (sym c.graph-graph.ensures)) c.show_walk.ensures.ok
 
 pub returns-else-is_live-clause-ok : goal.returns-else-is_live-clause-ok
-returns-else-is_live-clause-ok g c =
+returns-else-is_live-clause-ok g c n =
     on_ok_weaker c.refuse.result
-    (λ t. dead_obeyed (state_in (by_meaning g.B.PathIndex.meaning c.args.engine.now)) c.args.node c.args.expr.now _ _
+    (λ t. dead_obeyed (state_in (by_meaning g.B.PathIndex.meaning c.args.engine.now) n) c.args.node c.args.expr.now _ _
     (ap (λ h. is_live h c.args.node) (sym c.graph-graph.ensures) ∙ sym c.if-is_live.ensures.live) t) c.refuse.ensures.ok

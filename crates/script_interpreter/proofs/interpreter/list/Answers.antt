@@ -4,5 +4,5 @@ use Rattle.script_interpreter.proofs.EngineCalls.{data_obeyed}
 use Rattle.script_interpreter.proofs.interpreter.list.Goals as goal
 
 pub returns-in-Data-clause-ok : goal.returns-in-Data-clause-ok
-returns-in-Data-clause-ok g c =
-    on_ok_weaker c.refuse.result (λ t. data_obeyed (by_meaning g.B.PathIndex.meaning c.args.engine.now) c.args.via _ _ c.in-Data.is t) c.refuse.ensures.ok
+returns-in-Data-clause-ok g c n =
+    on_ok_weaker c.refuse.result (λ t. data_obeyed n (by_meaning g.B.PathIndex.meaning c.args.engine.now) c.args.via _ _ c.in-Data.is t) c.refuse.ensures.ok

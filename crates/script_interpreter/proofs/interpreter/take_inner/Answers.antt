@@ -7,21 +7,21 @@ use Rattle.script_interpreter.proofs.GroupLemmas.{adds_taken, ends_taken, not_in
 use Rattle.script_interpreter.proofs.interpreter.take_inner.Goals as goal
 
 pub returns-then-is_end-clause-ok : goal.returns-then-is_end-clause-ok
-returns-then-is_end-clause-ok g c number line group spelled k = (
+returns-then-is_end-clause-ok g c n number line group spelled k = (
   None,
   none_kept _ c.in_ok-end.ensures.ended,
-  ends_taken _ number line group c.args.output.now _ _ (subst (IsSpelled line) (c.if-is_end.ensures.0 refl) spelled) (c.in_ok-end.ensures.ok group k),
+  ends_taken _ number line group c.args.output.now _ _ _ (subst (IsSpelled line) (c.if-is_end.ensures.0 refl) spelled) (c.in_ok-end.ensures.ok n group k),
 )
 
 pub returns-in_ok-keep-in-Some-clause-ok : goal.returns-in_ok-keep-in-Some-clause-ok
-returns-in_ok-keep-in-Some-clause-ok g c number line group spelled k = (
+returns-in_ok-keep-in-Some-clause-ok g c n number line group spelled k = (
   Some (with_step group (step_of c.in-Some.step)),
   c.in_ok-keep-in-Some.ensures.ok group k,
   adds_taken _ number line group (step_of c.in-Some.step) c.args.output.now (subst (IsSpelled line) c.in-Some.ensures.found spelled),
 )
 
 pub returns-in-None-clause-ok : goal.returns-in-None-clause-ok
-returns-in-None-clause-ok g c number line group spelled k = (
+returns-in-None-clause-ok g c n number line group spelled k = (
   Some group,
   k,
   record {

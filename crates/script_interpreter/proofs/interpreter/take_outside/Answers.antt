@@ -20,5 +20,5 @@ pub returns-in-Err-clause-ok : goal.returns-in-Err-clause-ok
 returns-in-Err-clause-ok g c =
     IfOk-weaker c.fail_outside.result _ _
     (λ outcome h line reads.
-    (None, none_kept _ c.requires.none, h (state_of g.B.PathIndex.meaning c.args.engine.now) c.args.number line (subst (ReadsCommand program_limits line) c.in-Err.is reads)))
+    (None, none_kept _ c.requires.none, h (state_of g.B.PathIndex.meaning c.args.engine.now c.args.names.now.names) c.args.number line (subst (ReadsCommand program_limits line) c.in-Err.is reads)))
     c.fail_outside.ensures.ok

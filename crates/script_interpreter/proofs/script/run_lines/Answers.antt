@@ -5,6 +5,7 @@ use Rattle.pathindex_core.specs.Engines.{by_meaning}
 use Rattle.script_interpreter.specs.declared.script.Ending.TheVariants.{Bad}
 use Rattle.script_interpreter.specs.Endings.{status_at}
 use Rattle.script_interpreter.specs.EngineStates.{state_in}
+use Rattle.script_interpreter.specs.States.{State}
 use Rattle.script_interpreter.specs.Runs.{end_status}
 use Rattle.script_interpreter.specs.Rules.{rules_for}
 use Rattle.script_interpreter.specs.RunSteps.{progress}
@@ -15,14 +16,14 @@ use Rattle.script_interpreter.proofs.script.run_lines.Goals as goal
 pub returns-in_err-reader-clause-part : goal.returns-in_err-reader-clause-part
 returns-in_err-reader-clause-part g c =
     let p = err_from_is_err_and c.from_residual.result c.from_residual.ensures.1 in
-    rw p.1 (prefix-part _ _ (reached-start (rules_for c.args.printing) (state_in (by_meaning g.B.PathIndex.meaning c.args.engine.now)) (g.H.Shelf.left c.args.shelf.now) (g.K.Sink.written c.args.sink.now)) _ (nothing_written _ _))
+    rw p.1 (prefix-part _ _ (reached-start (rules_for c.args.printing) (state_in (by_meaning g.B.PathIndex.meaning c.args.engine.now) c.args.names.names) (g.H.Shelf.left c.args.shelf.now) (g.K.Sink.written c.args.sink.now)) _ (nothing_written _ _))
 
 pub lines-init : goal.lines-init
 lines-init g c = record {
   stands = record {
     group = None;
     is_kept = tt;
-    reached = rw (c.in_ok-reader.ensures, c.new-output.ensures) (reached-start (rules_for c.args.printing) (state_in (by_meaning g.B.PathIndex.meaning c.args.engine.now)) (g.H.Shelf.left c.args.shelf.now) (g.K.Sink.written c.args.sink.now));
+    reached = rw (c.in_ok-reader.ensures, c.new-output.ensures) (reached-start (rules_for c.args.printing) (state_in (by_meaning g.B.PathIndex.meaning c.args.engine.now) c.args.names.names) (g.H.Shelf.left c.args.shelf.now) (g.K.Sink.written c.args.sink.now));
   };
   printing = ap (λ o. o.printing) c.new-output.ensures;
   ready = c.requires.ready;
@@ -62,7 +63,7 @@ returns-in-Ok-AtBad-clause-ran g c =
     let step = c.in-Ok-AtBad.ensures.goes c.lines.invariant.stands.group c.lines.invariant.stands.is_kept in
     let goes = rw (c.in-Ok-AtBad.field-0-is, c.in_ok-flush_if_due.ensures.kept, c.lines.invariant.printing) at step.3 in
     ok_fact c.finish.result Bad _ _ c.finish.ensures.ending c.finish.ensures.all
-    (λ w. ran-bad _ _ (reached-written c.lines.invariant.stands.reached _ _ c.in_ok-flush_if_due.ensures.written) goes.0 _ _ goes.2 w _ (record { is_open = ap is_some c.next_line.ensures.ready.opened_is; state = goes.1 }))
+    (λ w. ran-bad _ _ (reached-written c.lines.invariant.stands.reached _ _ c.in_ok-flush_if_due.ensures.written) goes.0 _ _ goes.2 w _ (record { is_open = ap is_some c.next_line.ensures.ready.opened_is; graph = ap (λ (s : State). s.graph) goes.1; kept = ap (λ (s : State). s.kept) goes.1 }))
 
 pub returns-in-Ok-AtBad-clause-part : goal.returns-in-Ok-AtBad-clause-part
 returns-in-Ok-AtBad-clause-part g c =
@@ -75,11 +76,11 @@ pub returns-in-Ok-AtEnd-clause-ran : goal.returns-in-Ok-AtEnd-clause-ran
 returns-in-Ok-AtEnd-clause-ran g c =
     let step = c.in-Ok-AtEnd.ensures.goes c.lines.invariant.stands.group c.lines.invariant.stands.is_kept in
     let goes = rw (c.in-Ok-AtEnd.field-0-is, c.in_ok-flush_if_due.ensures.kept) at step.3 in
-    let p = progress (state_in (by_meaning g.B.PathIndex.meaning c.lines.engine)) c.lines.invariant.stands.group c.lines.output.refused c.lines.reader in
-    let q = progress (state_in (by_meaning g.B.PathIndex.meaning c.next_line.new.engine)) step.0 c.next_line.new.output.refused c.next_line.new.reader in
+    let p = progress (state_in (by_meaning g.B.PathIndex.meaning c.lines.engine) c.lines.names.names) c.lines.invariant.stands.group c.lines.output.refused c.lines.reader in
+    let q = progress (state_in (by_meaning g.B.PathIndex.meaning c.next_line.new.engine) c.next_line.new.names.names) step.0 c.next_line.new.output.refused c.next_line.new.reader in
     let e : status_at c.ending_of-ending.result ≡ end_status p = c.ending_of-ending.ensures q (kept_some step.0 c.next_line.new.group step.1 ∙ sym c.is_some.ensures) (sym c.is_refused.ensures) ∙ goes.2 in
     ok_fact c.finish-in-Ok-AtEnd.result c.ending_of-ending.result _ _ c.finish-in-Ok-AtEnd.ensures.ending c.finish-in-Ok-AtEnd.ensures.all
-    (λ w. rw e (ran-over _ _ (reached-written c.lines.invariant.stands.reached _ _ c.in_ok-flush_if_due.ensures.written) goes.0 _ _ goes.3 w _ (record { is_open = ap is_some c.next_line.ensures.ready.opened_is; state = goes.1 })))
+    (λ w. rw e (ran-over _ _ (reached-written c.lines.invariant.stands.reached _ _ c.in_ok-flush_if_due.ensures.written) goes.0 _ _ goes.3 w _ (record { is_open = ap is_some c.next_line.ensures.ready.opened_is; graph = ap (λ (s : State). s.graph) goes.1; kept = ap (λ (s : State). s.kept) goes.1 })))
 
 pub returns-in-Ok-AtEnd-clause-part : goal.returns-in-Ok-AtEnd-clause-part
 returns-in-Ok-AtEnd-clause-part g c =

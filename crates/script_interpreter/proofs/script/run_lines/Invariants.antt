@@ -10,8 +10,8 @@ use Rattle.script_interpreter.proofs.script.run_lines.Given as goal
 
 abbrev pub invariant-lines : goal.invariant-lines
 invariant-lines g l = record {
-  stands : Stands (rules_for l.fn.printing) (state_in (by_meaning g.B.PathIndex.meaning l.fn.engine)) (g.H.Shelf.left l.fn.shelf) (stream l.reader (g.H.Shelf.left l.shelf)) (g.K.Sink.written l.fn.sink) (g.K.Sink.written l.sink) l.output.text
-      (state_in (by_meaning g.B.PathIndex.meaning l.engine)) l.group l.output.refused l.reader;
+  stands : Stands (rules_for l.fn.printing) (state_in (by_meaning g.B.PathIndex.meaning l.fn.engine) l.fn.names.names) (g.H.Shelf.left l.fn.shelf) (stream l.reader (g.H.Shelf.left l.shelf)) (g.K.Sink.written l.fn.sink) (g.K.Sink.written l.sink) l.output.text
+      (state_in (by_meaning g.B.PathIndex.meaning l.engine) l.names.names) l.group l.output.refused l.reader;
   printing : l.output.printing ≡ l.fn.printing;
   ready : IsOpen (by_meaning g.B.PathIndex.meaning l.engine);
   can : CanRead l.reader (g.H.Shelf.is_open l.shelf);

@@ -1,9 +1,11 @@
-use Rattle.std.proofs.Common.{◌≡◌, ap, sym, ◌∙◌, Err}
+use Rattle.std.proofs.Common.{◌≡◌, ap, sym, ◌∙◌, subst, Err}
 use Rattle.std.proofs.lemmas.Result.{err_from_is_err_and}
 use Rattle.script_read.specs.ReadLines.{command_of}
 use Rattle.script_read.specs.declared.commands.ScriptError.TheVariants.{Limit}
-use Rattle.script_read.proofs.CommandLemmas.{failed_node, failed_relabel, failed_nodes, failed_path, failed_branch, failed_why, failed_check, node_free, relabel_free, free}
-use Rattle.script_read.proofs.CommandLaws.{relabel_once, path_once, branch_once, why_once, check_once, whole_once}
+use Rattle.std.specs.Prelude.{codes}
+use Rattle.triples_read.specs.Lines.{Spells as SpellsTriple}
+use Rattle.script_read.proofs.CommandLemmas.{failed_node, failed_relabel, failed_triple, insert_bad, delete_bad, opens_insert, opens_delete, failed_nodes, failed_path, failed_branch, failed_why, failed_check, node_free, relabel_free, triple_free, free}
+use Rattle.script_read.proofs.CommandLaws.{relabel_once, triple_once, path_once, branch_once, why_once, check_once, whole_once}
 use Rattle.script_read.proofs.commands.read.Goals as goal
 
 pub returns-in_err-parse_label-in-Node-clause-reads : goal.returns-in_err-parse_label-in-Node-clause-reads
@@ -35,6 +37,40 @@ returns-in_err-parse_label-in-Relabel-clause-once c = relabel_once c.args.line.n
 
 pub returns-in_ok-parse_label-in-Relabel-clause-once : goal.returns-in_ok-parse_label-in-Relabel-clause-once
 returns-in_ok-parse_label-in-Relabel-clause-once c = relabel_once c.args.line.now c.in-Relabel.node c.in-Relabel.word.now c.in-Relabel.ensures c.in_ok-parse_label-in-Relabel.ensures.once
+
+pub returns-in_err-parse_triple-in-Insert-clause-reads : goal.returns-in_err-parse_triple-in-Insert-clause-reads
+returns-in_err-parse_triple-in-Insert-clause-reads c =
+    let p = err_from_is_err_and c.from_residual-in_err-parse_triple-in-Insert.result c.from_residual-in_err-parse_triple-in-Insert.ensures.1 in
+    rw p.1 (failed_triple c.args.limits.now c.args.line.now (codes "insert") c.in-Insert.text.now p.0 c.in-Insert.ensures opens_insert
+    (λ i. c.in_err-parse_triple-in-Insert.ensures.no_limit (ap Err (sym p.2 ∙ i)))
+    (λ i. insert_bad c.args.line.now c.in-Insert.text.now c.in-Insert.ensures (c.in_err-parse_triple-in-Insert.ensures.bad (ap Err (sym p.2 ∙ i)))))
+
+pub returns-in_ok-parse_triple-in-Insert-clause-reads : goal.returns-in_ok-parse_triple-in-Insert-clause-reads
+returns-in_ok-parse_triple-in-Insert-clause-reads c =
+    ((c.in-Insert.ensures.0, subst (λ x. SpellsTriple x c.in_ok-parse_triple-in-Insert.field-0) c.in-Insert.ensures.1 c.in_ok-parse_triple-in-Insert.ensures.ok), triple_free c.args.limits.now c.args.line.now (codes "insert") c.in-Insert.text.now c.in-Insert.ensures opens_insert)
+
+pub returns-in_err-parse_triple-in-Insert-clause-once : goal.returns-in_err-parse_triple-in-Insert-clause-once
+returns-in_err-parse_triple-in-Insert-clause-once c = triple_once c.args.line.now (codes "insert") c.in-Insert.text.now c.in-Insert.ensures opens_insert
+
+pub returns-in_ok-parse_triple-in-Insert-clause-once : goal.returns-in_ok-parse_triple-in-Insert-clause-once
+returns-in_ok-parse_triple-in-Insert-clause-once c = triple_once c.args.line.now (codes "insert") c.in-Insert.text.now c.in-Insert.ensures opens_insert
+
+pub returns-in_err-parse_triple-in-Delete-clause-reads : goal.returns-in_err-parse_triple-in-Delete-clause-reads
+returns-in_err-parse_triple-in-Delete-clause-reads c =
+    let p = err_from_is_err_and c.from_residual-in_err-parse_triple-in-Delete.result c.from_residual-in_err-parse_triple-in-Delete.ensures.1 in
+    rw p.1 (failed_triple c.args.limits.now c.args.line.now (codes "delete") c.in-Delete.text.now p.0 c.in-Delete.ensures opens_delete
+    (λ i. c.in_err-parse_triple-in-Delete.ensures.no_limit (ap Err (sym p.2 ∙ i)))
+    (λ i. delete_bad c.args.line.now c.in-Delete.text.now c.in-Delete.ensures (c.in_err-parse_triple-in-Delete.ensures.bad (ap Err (sym p.2 ∙ i)))))
+
+pub returns-in_ok-parse_triple-in-Delete-clause-reads : goal.returns-in_ok-parse_triple-in-Delete-clause-reads
+returns-in_ok-parse_triple-in-Delete-clause-reads c =
+    ((c.in-Delete.ensures.0, subst (λ x. SpellsTriple x c.in_ok-parse_triple-in-Delete.field-0) c.in-Delete.ensures.1 c.in_ok-parse_triple-in-Delete.ensures.ok), triple_free c.args.limits.now c.args.line.now (codes "delete") c.in-Delete.text.now c.in-Delete.ensures opens_delete)
+
+pub returns-in_err-parse_triple-in-Delete-clause-once : goal.returns-in_err-parse_triple-in-Delete-clause-once
+returns-in_err-parse_triple-in-Delete-clause-once c = triple_once c.args.line.now (codes "delete") c.in-Delete.text.now c.in-Delete.ensures opens_delete
+
+pub returns-in_ok-parse_triple-in-Delete-clause-once : goal.returns-in_ok-parse_triple-in-Delete-clause-once
+returns-in_ok-parse_triple-in-Delete-clause-once c = triple_once c.args.line.now (codes "delete") c.in-Delete.text.now c.in-Delete.ensures opens_delete
 
 pub returns-in-Whole-clause-reads : goal.returns-in-Whole-clause-reads
 returns-in-Whole-clause-reads c = (c.in-Whole.ensures.0, free c.args.limits.now c.args.line.now (command_of c.in-Whole.command) c.in-Whole.ensures.0 c.in-Whole.ensures.1)

@@ -1,6 +1,6 @@
 use Rattle.std.proofs.Common.{refl, sym, true≢false, []}
 use Rattle.std.specs.Prelude.{codes}
-use Rattle.script_read.proofs.CommandLemmas.{words_opened, none_begin, none_end, none_other}
+use Rattle.script_read.proofs.CommandLemmas.{words_opened, none_begin, none_end}
 use Rattle.script_read.proofs.scan.scan_group.Goals as goal
 
 pub returns-then-is_over : goal.returns-then-is_over
@@ -15,7 +15,9 @@ returns-then-is_over-2 c line w r = (words_opened line _ _ (codes "end") [] w r 
 pub returns-else-is_over-2 : goal.returns-else-is_over-2
 returns-else-is_over-2 c line w r = none_end line _ _ c.requires.report.other.loud w r (c.if-is_word-2.ensures.0 refl) (λ e. true≢false (sym (c.if-is_over-2.ensures.1 e)))
 
-pub returns-else-is_word-2 : goal.returns-else-is_word-2
-returns-else-is_word-2 c line w r =
-    none_other line _ _ c.requires.report.other.loud w r c.requires
-    (λ e. true≢false (sym (c.if-is_word.ensures.1 e))) (λ e. true≢false (sym (c.if-is_word-2.ensures.1 e)))
+pub scan_triple-requires : goal.scan_triple-requires
+scan_triple-requires c = record {
+  group = c.requires;
+  no_begin = λ e. true≢false (sym (c.if-is_word.ensures.1 e));
+  no_end = λ e. true≢false (sym (c.if-is_word-2.ensures.1 e));
+}

@@ -15,4 +15,4 @@ returns-clause-canonical c =
 pub returns-clause-again : goal.returns-clause-again
 returns-clause-again c =
     let text = subst (λ q. IsTrue (has_text q)) (sym c.self.view_is) c.requires in
-    subst (λ t. Spells t c.args.self.now) (sym (returns-clause-canonical c)) (subst (λ q. Spells (canonical q) q) c.self.view_is (again c.self.inside.tree c.self.invariant text))
+    subst (λ t. Spells t c.args.self.now) (sym (returns-clause-canonical c)) (subst (λ q. Spells (canonical q) q) c.self.view_is (again c.self.inside.tree c.self.invariant.0 text))

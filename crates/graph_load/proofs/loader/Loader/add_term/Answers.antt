@@ -1,7 +1,8 @@
 use Rattle.std.proofs.Common.{◌∙◌, ap, sym, Some}
 use Rattle.term_table.specs.Terms.{number_of}
 use Rattle.term_table.specs.Terms.{place_in}
-use Rattle.graph_load.proofs.SoundSteps.{term_steps, term_place, term_number}
+use Rattle.graph_load.proofs.SoundSteps.{term_steps, term_number}
+use Rattle.triple_names.proofs.KeyLaws.{term_place}
 use Rattle.graph_load.proofs.loader.Loader.add_term.Goals as goal
 
 pub returns-clause-steps : goal.returns-clause-steps

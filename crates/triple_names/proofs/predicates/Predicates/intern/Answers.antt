@@ -22,12 +22,12 @@ add-requires-clause-absent c =
 
 pub returns-clause-added : goal.returns-clause-added
 returns-clause-added c =
-    c.in_ok-add.ensures ∙ ap (λ x. c.args.self.now ++ x ∷ []) c.in_ok-copy.ensures
+    c.in_ok-add.ensures.added ∙ ap (λ x. c.args.self.now ++ x ∷ []) c.in_ok-copy.ensures
     ∙ predicate_new c.args.self.now c.args.iri.now (sym c.find.ensures ∙ c.in_default-find.is)
 
 pub returns-clause-place : goal.returns-clause-place
 returns-clause-place c =
-    ap (position (bytes_eq c.args.iri.now)) (c.in_ok-add.ensures ∙ ap (λ x. c.args.self.now ++ x ∷ []) c.in_ok-copy.ensures)
+    ap (position (bytes_eq c.args.iri.now)) (c.in_ok-add.ensures.added ∙ ap (λ x. c.args.self.now ++ x ∷ []) c.in_ok-copy.ensures)
     ∙ position_push (bytes_eq c.args.iri.now) c.args.self.now c.args.iri.now (bytes_same c.args.iri.now)
     (none_passes (bytes_eq c.args.iri.now) c.args.self.now (sym c.find.ensures ∙ c.in_default-find.is))
     ∙ ap Some (sym c.len-place.ensures)

@@ -1,0 +1,4 @@
+pub mod Sessions
+pub mod Openings
+pub mod Asked
+pub mod TextAnswers

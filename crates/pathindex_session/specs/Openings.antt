@@ -1,0 +1,35 @@
+-- The engine of a session that is opened with a text.
+use Rattle.std.specs.Prelude.{ℕ, ⊤, List, [], ◌∷◌, ◌++◌, Some, ◌≡◌, if◌then◌else◌}
+use Rattle.graph_spec.specs.ProgramLimits.{program_limits}
+use Rattle.graph_spec.specs.Graphs.{Graph}
+use Rattle.bisim_spec.specs.declared.kind.Kind.{Kind}
+use Rattle.bisim_spec.specs.declared.kind.Kind.TheVariants.{A, One, Fb}
+use Rattle.graph_load.specs.Loads.{Loads, loaded, syntax, limit}
+use Rattle.index_api.specs.IndexKinds.{kinds_of}
+use Rattle.pathindex_core.specs.Engines.{EngineOf, by_meaning}
+use Rattle.any_index.specs.declared.any.AnyIndex.{AnyIndex}
+use Rattle.any_index.specs.AnyMeanings.{meaning_of}
+use Rattle.pathindex_session.specs.declared.errors.OpenError.{OpenError}
+use Rattle.pathindex_session.specs.declared.errors.OpenError.TheVariants as error
+use Rattle.pathindex_session.specs.declared.opening.Indexes.{Indexes}
+
+-- the kinds of indexes that are kept
+abbrev pub kinds_kept : Indexes → List Kind
+kinds_kept kept = A ∷ (if kept.one then One ∷ [] else []) ++ (if kept.fb then Fb ∷ [] else [])
+
+-- the engine has this graph and keeps these indexes
+pub record OpensGraph (g : Graph) (kept : Indexes) (e : EngineOf AnyIndex) : Type 0 where
+  pub opened : e.opened ≡ Some (record { graph = g; limits = program_limits; k = kept.k })
+  pub kinds : kinds_of (by_meaning meaning_of e).boxes ≡ kinds_kept kept
+
+-- the same with the graph of the triples in a text
+pub record OpensText (text : List ℕ) (kept : Indexes) (e : EngineOf AnyIndex) : Type 0 where
+  pub graph : Graph
+  pub loads : Loads program_limits text (loaded graph)
+  pub opens : OpensGraph graph kept e
+
+-- the line that an error names is the one at which the text is refused, and for that reason
+abbrev pub TellsLine : List ℕ → OpenError → Type 0
+TellsLine text (error.Syntax l) = Loads program_limits text (syntax l)
+TellsLine text (error.Limit l) = Loads program_limits text (limit l)
+TellsLine text error.Memory = ⊤

@@ -1,0 +1,43 @@
+-- A session as it is seen.
+use Rattle.std.specs.Prelude.{ℕ, List, IsSome, refl, ◌≡◌}
+use Rattle.std.specs.Coded.{Coded, code_by, coded×, coded_list, coded_ℕ}
+use Rattle.graph_spec.specs.Graphs.{Graph}
+use Rattle.pathindex_core.specs.Engines.{EngineOf, EngineSeen, engine_code, by_meaning, graph_in, IsSound}
+use Rattle.any_index.specs.declared.any.AnyIndex.{AnyIndex}
+use Rattle.any_index.specs.contracts.any.AnyIndex.{the_row as index_row}
+use Rattle.any_index.specs.AnyMeanings.{meaning_of}
+
+pub record SessionOf : Type 0 where
+  -- the engine, with its graph and its indexes
+  pub engine : EngineOf AnyIndex
+  -- the answers that were found last, rising
+  pub nodes : List ℕ
+  -- the walk that was found last
+  pub walk : List ℕ
+  -- the list of blocks or of sizes that was made last
+  pub text : List ℕ
+
+abbrev pub session_code : Coded SessionOf
+session_code =
+    code_by (EngineOf AnyIndex × (List ℕ × (List ℕ × List ℕ)))
+    (coded× (engine_code index_row.coded) (coded× (coded_list coded_ℕ) (coded× (coded_list coded_ℕ) (coded_list coded_ℕ))))
+    (λ s. (s.engine, (s.nodes, (s.walk, s.text)))) (λ p. record { engine = p.0; nodes = p.1.0; walk = p.1.1.0; text = p.1.1.1 }) (λ _. refl)
+
+-- the engine of a session, by what its indexes mean
+abbrev pub engine_in : SessionOf → EngineSeen
+engine_in s = by_meaning meaning_of s.engine
+
+-- the graph of a session
+abbrev pub graph_of : SessionOf → Graph
+graph_of s = graph_in s.engine.opened
+
+-- What holds of a session's engine between two calls.
+pub record IsReady (e : EngineOf AnyIndex) : Type 0 where
+  pub is_open : IsSome e.opened
+  pub sound : IsSound (by_meaning meaning_of e)
+
+-- what was found last stays
+pub record KeepsFound (s t : SessionOf) : Type 0 where
+  pub nodes : t.nodes ≡ s.nodes
+  pub walk : t.walk ≡ s.walk
+  pub text : t.text ≡ s.text
