@@ -2,10 +2,13 @@
 
 SHELL := /bin/bash
 .DEFAULT_GOAL := help
-.PHONY: help run test try bench
+.PHONY: help run test try bench library
 
 PROGRAM := crates/pathindex_main
 COUNTER := crates/example_count
+LIBRARY := crates/pathindex_c
+# what the kit's heap calls the C library by
+HEAP = $(dir $(realpath $(shell command -v rt)))../c/liblibc_c.a
 # How many crates `make run` takes in hand at a time: far more than there are cores, since most of them wait for a crate below. Each that is
 # proved takes up to 2 GB, and about six are at once.
 JOBS ?= 14
@@ -18,6 +21,7 @@ help:
 	@echo 'make run               run examples/foaf.script at once, and then prove and build the program'
 	@echo 'make test              the gate: each proof, each edit that must be refused, each test, program and example'
 	@echo 'make try SCRIPT=FILE   run a script without proving anything, for a first look; GRAPH=FILE names a graph file'
+	@echo 'make library           prove and build bin/libpathindex.a and bin/libpathindex.so, for C, C++ and Python'
 	@echo 'make bench             measure bin/pathindex on generated scripts and graph files, and example_count beside serdi'
 
 run:
@@ -44,6 +48,14 @@ test:
 	rt ci
 	tools/compare_examples.sh $(PROGRAM)/out/pathindex_main
 
+library:
+	@$(NEEDS_RT)
+	@command -v cc >/dev/null || { echo "make library: cc isn't on the path; apt-get install gcc brings it" >&2; exit 1; }
+	@mkdir -p bin
+	cd $(LIBRARY) && rt lib
+	tools/build_library.sh $(LIBRARY)/out/libpathindex_c.a $(HEAP) bin
+	@echo 'bin/libpathindex.a and bin/libpathindex.so are built; include/pathindex.h and python/pathindex.py stand over them.'
+
 try:
 	@$(NEEDS_RT)
 	@test -n '$(SCRIPT)' || { echo 'make try: name a script, as in make try SCRIPT=examples/first.script' >&2; exit 1; }
@@ -61,6 +73,7 @@ bench:
 	@python3 tools/bench_groups.py
 	@python3 tools/bench_edits.py
 	@python3 tools/bench_walks.py
+	@if test -f bin/libpathindex.a; then python3 tools/bench_library.py; else echo 'make bench: bin/libpathindex.a is missing, so the library is not measured; make library builds it'; fi
 	@command -v serdi >/dev/null || { echo "make bench: serdi isn't on the path, so example_count has nothing to stand beside; apt-get install serdi brings it" >&2; exit 1; }
 	@test -x $(COUNTER)/out/example_count || { echo 'make bench: example_count is missing; make test builds it' >&2; exit 1; }
 	@python3 tools/bench_triples.py

@@ -1,6 +1,7 @@
 #!/usr/bin/env python3
 """Has bin/pathindex show by which walks nodes of generated graphs answer path expressions, and prints what a `why` takes beside a
-`path data` of the same expression; then what a `check` of the longest list of nodes takes that fits a line. The gate doesn't run this.
+`path data` of the same expression; then what a `check` of the longest list of nodes takes that fits a line with its expression. The gate
+doesn't run this.
 
     bench_walks.py [PROGRAM]
 
@@ -20,6 +21,7 @@ EXPRESSIONS = "<http://e/p0>/iri/<http://e/p1>", "<http://e/p0>//literal"
 TURNS = 3
 ASKED = 100  # so many queries, and so many answers that are asked about, spread over all
 LINE_BYTES = 1_048_576  # the limit on a line of a script
+CHECKED = "(a/b)*/_?"
 FLAGS = ["--k", "0", "--without-one", "--without-fb"]
 
 
@@ -86,25 +88,16 @@ def measure_why(program, folder, kind):
         )
 
 
-def longest_list(period):
-    """The nodes n0, n1, .. over and over, as many as fit a `check` line with room for the expression."""
-    nodes, size = [], len("check ") + 64
-    while True:
-        name = f"n{len(nodes) % period}"
-        size += len(name) + 1
-        if size > LINE_BYTES:
-            return nodes
-        nodes.append(name)
-
-
 def measure_check(program, folder):
     period = 10
     ring = [f"node {label}" for label in "ab" * (period // 2)]
     ring += [f"link n{n} n{(n + 1) % period}" for n in range(period)]
-    nodes = longest_list(period)
+    # each name takes two bytes, with a comma or the blank behind it
+    count = (LINE_BYTES - len(f"check {CHECKED}")) // 3
+    nodes = [f"n{i % period}" for i in range(count)]
     bench = Bench(program, folder, [])
     bench.put("empty", ring)
-    bench.put("check", ring + [f"check {','.join(nodes)} (a/b)*/_?"])
+    bench.put("check", ring + [f"check {','.join(nodes)} {CHECKED}"])
     said = bench.output("check")[-1]
     taken = bench.best()
     print(f"check of {len(nodes):,} nodes: {said}, {(taken['check'] - taken['empty']) * 1000:.1f} ms")

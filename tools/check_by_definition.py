@@ -1,28 +1,55 @@
 #!/usr/bin/env python3
 """Compares the program with slow, plain definitions: check_by_definition.py PROGRAM [RUNS [changes | triples]].
 
-Each run makes a small random script of changes, groups of changes, triples that come and go, queries, lists and sizes. With the word
-changes it is of changes alone, and after each, from the first node on, the 1-index and the A(k)-indexes up to A(3) at least are listed;
-in some of these runs, and in no others, a node gains many neighbours one by one, and loses them one by one or at once. With the word
-triples it is of inserts and deletes alone, with the same lists, and after each the graph must be that of a load of the triples that are
-present. At the end it is printed how many changes there were. What the program writes must be what the definitions below give, which
-work on pairs of nodes and know neither splitting of blocks nor automata nor sets that spread along an axis. Where walks come back to
-their beginning several partitions of the 1-index are lawful, so of that which the program lists the demands are tested: it is stable,
-no two blocks can be merged, and since it was last listed nodes that no change reaches are together as before. The first script whose
-output is wrong is printed with it, and the exit status is 1.
+Each run makes a small random script of changes, groups of changes, triples that come and go, queries, lists and sizes. Three of four
+begin with a graph file of random triples, whose terms the script spells in other ways too. With the word changes it is of changes alone,
+and after each, from the first node on, the 1-index and all levels, up to level 3 at least, are listed; in some of these runs, and in no
+others, a node gains many neighbours one by one, and loses them one by one or at once, and these begin with the empty graph. With the word
+triples it is of inserts and deletes alone. After the load, and after each of them, all indexes that are kept are listed and counted, and
+the walk of each present triple is checked with its labels. Then the program loads a file of the present triples, in another order, and
+must give the same lists, sizes and walks but for the numbers. Where walks come back to their beginning that leaves out the 1-index, which
+may have more blocks after changes. At the end it is printed how many changes, walks, edits and loads there were.
+
+What the program writes must be what the definitions below give, which work on pairs of nodes and know neither splitting of blocks nor
+automata nor sets that spread along an axis. Where walks come back to their beginning several partitions of the 1-index are lawful, so of
+that which the program lists the demands are tested: it is stable, no two blocks can be merged, and since it was last listed nodes that no
+change reaches are together as before. The first script whose output is wrong is printed with it, and the exit status is 1.
 """
 import functools
+import math
+import os
 import random
 import subprocess
 import sys
 import tempfile
 
 LABELS = "abc"
-TERMS = "<a>", "<b>", "_:b", '"l"'
-PREDICATES = "<p>", "<q>"
+XSD_STRING = "<http://www.w3.org/2001/XMLSchema#string>"
+LONG = "long " * 1000
+# the spellings of each term; an IRI comes first as it is spelled in labels
+SPELLINGS = {spellings[0]: spellings for spellings in (
+    ("<a>", r"<\u0061>", r"<\U00000061>"),
+    ("<http://e/é>", r"<http://e/\u00E9>", r"<http://e/\U000000e9>"),
+    (r"<\u0020>", r"<\U00000020>"),
+    ("<p>", r"<\u0070>"),
+    ("_:b",),
+    ("_:B.0",),
+    ('"a"', r'"\u0061"', f'"a"^^{XSD_STRING}', rf'"\U00000061" ^^ {XSD_STRING[:-2]}\u0067>'),
+    ('"a"^^<a>', r'"a" ^^ <\u0061>'),
+    ('"a"^^<http://www.w3.org/1999/02/22-rdf-syntax-ns#langString>',),
+    ('"a"@en', '"a"@EN', r'"\u0061" @eN'),
+    ('"a"@en-gb', '"a"@EN-gb', '"a"@en-GB'),
+    (r'"\t\b\n\r\f\"\'\\"', '"\t\b\\n\\r\f\\"\'\\\\"', r'"\u0009\u0008\u000A\u000d\u000C\u0022\U00000027\u005C"'),
+    (f'"{LONG}a"', rf'"{LONG}\u0061"'),
+    (f'"{LONG}b"', rf'"\u006C{LONG[1:]}b"'),
+)}
+IRIS = [term for term in SPELLINGS if term[0] == "<"]
+BLANKS = [term for term in SPELLINGS if term[0] == "_"]
+LITERALS = [term for term in SPELLINGS if term[0] == '"']
 NODES = 7
 LINKS = 9
 LINES = 60
+LOADED = 6  # the most lines of a graph file
 GROUP = 8  # the most steps of a group
 HUB_RUNS = 4  # of so many runs of changes one has a hub
 SPOKES = 20, 40
@@ -66,23 +93,25 @@ def refined(graph, related, sides):
     return {(u, v) for u, v in related if all(partners(t, u, v) and partners(t, v, u) for t in tables)}
 
 
-def level(graph, i):
-    """The pairs of nodes that are bisimilar to level i: labels agree, and below it each parent has a partner."""
-    live = graph.live()
-    related = {(u, v) for u in live for v in live if graph.labels[u] == graph.labels[v]}
-    for _ in range(i):
-        related, before = refined(graph, related, [graph.parents]), related
-        if related == before:
-            break
-    return related
+@functools.lru_cache(maxsize=8)
+def levels(labels, edges, is_both_ways):
+    """The pairs of nodes that are bisimilar to level 0, 1 and so on, up to the level that all further ones repeat: labels agree, and below
+    it each parent has a partner, and each child too if both ways are looked."""
+    graph = Graph()
+    graph.labels, graph.edges = labels, edges
+    live, sides = graph.live(), [graph.parents, graph.children] if is_both_ways else [graph.parents]
+    result = [{(u, v) for u in live for v in live if labels[u] == labels[v]}]
+    while True:
+        related = refined(graph, result[-1], sides)
+        if related == result[-1]:
+            return result
+        result.append(related)
 
 
-def both_ways(graph):
-    """The pairs of nodes that are bisimilar by parents and children."""
-    related, before = level(graph, 0), None
-    while related != before:
-        related, before = refined(graph, related, [graph.parents, graph.children]), related
-    return related
+def related_in(graph, word, i):
+    """The pairs of nodes that share a block of this index, which isn't the 1-index."""
+    result = levels(tuple(graph.labels), frozenset(graph.edges), word[0] != "a")
+    return result[-1 if i is None else min(i, len(result) - 1)]
 
 
 def classes(graph, related):
@@ -119,7 +148,7 @@ def fault_of_one(graph, blocks):
         return "not stable"
     if any(key(b[0], (i, j)) == key(c[0], (i, j)) for i, b in enumerate(blocks) for j, c in enumerate(blocks) if i < j):
         return "two blocks can be merged"
-    if not has_ring(graph) and len(blocks) != len(classes(graph, level(graph, len(graph.labels)))):
+    if not has_ring(graph) and len(blocks) != len(classes(graph, related_in(graph, "a", None))):
         return "not full bisimilarity"
     return None
 
@@ -165,6 +194,42 @@ def make(graph, step):
 
 def label_of(term):
     return {"<": "iri", "_": "blank", '"': "literal"}[term[0]]
+
+
+def there(graph, names, item):
+    """The node of a term or of a triple, where it is live."""
+    node = names.get(item)
+    return node if node is not None and graph.is_live(node) else None
+
+
+def insertion(graph, names, triple):
+    """The steps that insert a triple, and the numbers that its parts have then."""
+    subject, predicate, object_ = triple
+    given, steps = {}, []
+    for item, label in (subject, label_of(subject)), (triple, predicate), (object_, label_of(object_)):
+        if item not in given:
+            given[item] = there(graph, names, item)
+            if given[item] is None:
+                given[item] = len(graph.labels) + len(steps)
+                steps.append(("node", label))
+    return steps + [("link", given[subject], given[triple]), ("link", given[triple], given[object_])], given
+
+
+def load(triples):
+    """The graph of these triples, and the numbers of their parts."""
+    graph, names = Graph(), {}
+    for triple in triples:
+        steps, given = insertion(graph, names, triple)
+        for step in steps:
+            make(graph, step)
+        names |= given
+    return graph, names
+
+
+def spelled_triple(pick, triple):
+    """A line of N-Triples, each part in some spelling."""
+    between = pick.choice(["", " ", "\t "])
+    return between.join([pick.choice(SPELLINGS[part]) for part in triple] + [pick.choice([".", ". # again"])])
 
 
 def is_load(graph, names, present):
@@ -358,7 +423,8 @@ def expression(pick, depth):
 # Branching queries: a step and a chain, which is a list of pairs of an axis and a step. A step is a label, or _, and its predicates:
 # ("rel", chain), ("not", p), ("group", p), ("and", p, q), ("or", p, q), and ("always",), which is never spelled.
 
-def steps_along(graph, edges, axis):
+@functools.lru_cache(maxsize=8)
+def steps_along(edges, axis):
     """The pairs of nodes such that the axis leads from the one to the other."""
     related = set(edges)
     while len(axis) == 2:
@@ -377,7 +443,7 @@ def meets(graph, edges, step, node):
 def ends(graph, edges, chain, nodes):
     """The nodes to which the chain leads from some of these."""
     for axis, step in chain:
-        pairs = steps_along(graph, edges, axis)
+        pairs = steps_along(edges, axis)
         nodes = {v for u, v in pairs if u in nodes and meets(graph, edges, step, v)}
     return nodes
 
@@ -398,6 +464,7 @@ def holds(graph, edges, p, node):
 
 def branch_answers(graph, edges, query):
     step, chain = query
+    edges = frozenset(edges)
     return sorted(ends(graph, edges, chain, {n for n in graph.live() if meets(graph, edges, step, n)}))
 
 
@@ -419,6 +486,32 @@ def relaxed_predicate(p):
 
 def relaxed(query):
     return relaxed_step(query[0]), relaxed_chain(query[1])
+
+
+def further(axis, depth):
+    return depth + 1 if len(axis) == 1 else math.inf
+
+
+def depth_of_predicate(p):
+    """How many edges away the predicate looks."""
+    if p[0] != "rel":
+        return max(depth_of_predicate(q) for q in p[1:])
+    depth = 0
+    for axis, step in reversed(p[1]):
+        depth = further(axis, max(depth, depth_of_step(step)))
+    return depth
+
+
+def depth_of_step(step):
+    return max(map(depth_of_predicate, step[1]), default=0)
+
+
+def depth_of_query(query):
+    """How many edges away from its answers the query looks."""
+    depth = depth_of_step(query[0])
+    for axis, step in query[1]:
+        depth = max(further(axis, depth), depth_of_step(step))
+    return depth
 
 
 def spelled_chain(chain):
@@ -516,35 +609,74 @@ def asks_one(graph, query, found, nodes):
     return test
 
 
+def check_of(names, triple):
+    """The line that checks the walk of a triple with its labels."""
+    subject, predicate, object_ = triple
+    walk = ",".join(f"n{names[item]}" for item in (subject, triple, object_))
+    return f"check {walk} {label_of(subject)}/{predicate}/{label_of(object_)}"
+
+
+def by_items(lines, names, triples):
+    """These lines, with each list of blocks as a set of labels with the terms and triples that have these names."""
+    items = {f"n{names[item]}": item for triple in triples for item in (triple[0], triple, triple[2])}
+    result, lines = [], iter(lines)
+    for line in lines:
+        result.append(line)
+        if line.startswith("blocks "):
+            rows = [next(lines, "").split() for _ in range(int(line.split()[1]))]
+            result.append({(*row[:1], frozenset(map(items.get, row[1:]))) for row in rows})
+    return result
+
+
 def sizes_one(graph):
     return lambda output: writes(f"one blocks {len(output.one)} edges {pairs_of(graph, output.one)}")(output)
+
+
+def sizes_by_definition(graph, word, i):
+    blocks = classes(graph, related_in(graph, word, i))
+    return writes(f"{word} blocks {len(blocks)} edges {pairs_of(graph, blocks)}")
 
 
 class Run:
     """A random script, and a test for what each of its lines writes."""
 
-    def __init__(self, seed, sort):
+    def __init__(self, program, seed, sort):
+        self.program = program
         self.pick = random.Random(seed)
         self.changes_alone = changes_alone = sort != ""
-        triples_alone = sort == "triples"
+        self.triples_alone = sort == "triples"
         self.k = self.pick.randrange(*(CHANGES_K if changes_alone else QUERIES_K))
         self.kept = {"a", "one", "fb"} - {kind for kind in ("one", "fb") if self.pick.randrange(8) == 0}
         self.words = ["--k", str(self.k)] + [f"--without-{kind}" for kind in ("one", "fb") if kind not in self.kept]
+        if self.pick.randrange(2):
+            self.kept.add("b")
+            self.words.append("--with-bk")
         self.graph = Graph()
-        # the numbers of terms and triples, and the triples that were inserted and not deleted
+        # the numbers of terms and triples, and the triples that were loaded or inserted, and not deleted
         self.names = {}
         self.present = set()
+        # what triples are made of
+        self.subjects = self.pick.sample(IRIS, 2) + [self.pick.choice(BLANKS)]
+        self.predicates = self.pick.sample(IRIS, 2)
+        self.objects = self.subjects + self.pick.sample(LITERALS, 2)
         self.may_have_rings = self.pick.randrange(8) < 5  # so that about half of the changes meet a ring
         self.moves = Moves()
         self.has_hub = sort == "changes" and self.pick.randrange(HUB_RUNS) == 0
         self.changes = 0
+        # inserts and deletes, and the loads to which the graph is compared
+        self.edits = 0
+        self.loads = 0
         # the walks that are tried, and those of more than one node
         self.walks = [0, 0]
         # those after which the 1-index is listed, on acyclic graphs and on others
         self.ones = [0, 0]
         self.script = []
         self.tests = []
-        if triples_alone:
+        # the lines of the graph file, where there is one
+        self.file = None
+        if not self.has_hub and self.pick.randrange(4):
+            self.begin()
+        if self.triples_alone:
             for _ in range(LINES):
                 self.pick.choice([self.insert, self.insert, self.delete])()
                 assert is_load(self.graph, self.names, self.present), self.script
@@ -561,9 +693,22 @@ class Run:
                 self.close_ring()
             self.pick.choice(changes if changes_alone else changes + asks)()
             if not changes_alone and self.pick.randrange(LINES) == 0:
-                kind = self.pick.choice(["a", "one", "fb"])
+                kind = self.pick.choice(["a", "one", "fb", "b"])
                 self.say(f"forget {kind}", writes("ok" if kind in self.kept else "refused no-index"))
                 self.kept.discard(kind)
+
+    def begin(self):
+        """Begins with a graph file."""
+        triples = []
+        for _ in range(self.pick.randint(1, LOADED)):
+            more = triples + [self.a_triple()]
+            if self.may_have_rings or not has_ring(load(more)[0]):
+                triples = more
+        self.file = [spelled_triple(self.pick, triple) for triple in triples]
+        self.graph, self.names = load(triples)
+        self.present = set(triples)
+        if self.changes_alone:
+            self.list_all()
 
     def say(self, line, *tests):
         self.script.append(line)
@@ -623,10 +768,57 @@ class Run:
         return lists_one(self.graph.copy(), moves)
 
     def list_all(self):
+        """Lists the 1-index and all levels, and in a run of triples all that is kept, beside a load."""
+        if self.triples_alone:
+            self.compare()
+            return
         if "one" in self.kept:
             self.say("extents one", self.list_one())
-        for i in range(self.k + 1):
-            self.say(f"extents a{i}", lists(self.graph.copy(), classes(self.graph, level(self.graph, i))))
+        self.list_levels(self.levels("a") + self.levels("b"))
+
+    def list_levels(self, levels):
+        for word, i in levels:
+            self.say(f"extents {word}", lists(self.graph.copy(), classes(self.graph, related_in(self.graph, word, i))))
+
+    def compare(self):
+        """Lists and counts all that is kept, and checks the walk of each present triple; a load of these triples must give the same."""
+        varies = "one" in self.kept and has_ring(self.graph)
+        if varies:
+            self.say("extents one", self.list_one())
+        line, test = len(self.script), len(self.tests)
+        if "one" in self.kept and not varies:
+            self.say("extents one", self.list_one())
+        self.count()
+        self.list_levels(self.levels("a") + self.levels("b") + ([("fb", None)] if "fb" in self.kept else []))
+        asks, triples = self.script[line:], sorted(self.present)
+        for triple in triples:
+            self.say(check_of(self.names, triple), writes("yes"))
+        self.tests[test:] = [self.is_as_loaded(self.tests[test:], asks, triples, varies)]
+        self.loads += 1
+
+    def is_as_loaded(self, tests, asks, triples, varies):
+        """The test that these hold, and that a load of the triples answers the same; the 1-index is left out where it varies."""
+        names, order = self.names.copy(), self.pick.sample(triples, len(triples))
+        file = [spelled_triple(self.pick, triple) for triple in order]
+        loaded = load(order)[1]
+        asks = asks + [check_of(loaded, triple) for triple in triples]
+
+        def test(output):
+            at = output.at
+            for each in tests:
+                fault = each(output)
+                if fault:
+                    return fault
+            edited = [line for line in output.lines[at:output.at] if not (varies and line.startswith("one "))]
+            written, status = written_by(self.program, asks, file, self.words + ["--without-one"] * varies)
+            if status != 0 or by_items(written.splitlines(), loaded, triples) != by_items(edited, names, triples):
+                return f"not as after a load of\n{file}\nof which with status {status} is written\n{written}"
+            return None
+        return test
+
+    def levels(self, kind):
+        """The levels that are kept of this kind: the word and the number of each."""
+        return [(f"{kind}{i}", i) for i in range(self.k + 1 if kind in self.kept else 0)]
 
     def a_node(self, graph):
         return "node", self.pick.choice(LABELS)
@@ -647,42 +839,34 @@ class Run:
         return "relabel", self.any_node(graph), self.pick.choice(LABELS)
 
     def a_triple(self):
-        return self.pick.choice(TERMS[:3]), self.pick.choice(PREDICATES), self.pick.choice(TERMS)
-
-    def there(self, item):
-        """The node of a term or of a triple, where it is live."""
-        node = self.names.get(item)
-        return node if node is not None and self.graph.is_live(node) else None
+        return self.pick.choice(self.subjects), self.pick.choice(self.predicates), self.pick.choice(self.objects)
 
     def insert(self):
         """Inserts a triple, unless that would make a ring where none may be."""
-        triple = subject, predicate, object_ = self.a_triple()
-        given, steps = {}, []
-        for item, label in (subject, label_of(subject)), (triple, predicate), (object_, label_of(object_)):
-            if item not in given:
-                given[item] = self.there(item)
-                if given[item] is None:
-                    given[item] = len(self.graph.labels) + len(steps)
-                    steps.append(("node", label))
-        steps += [("link", given[subject], given[triple]), ("link", given[triple], given[object_])]
+        triple = self.a_triple()
+        steps, given = insertion(self.graph, self.names, triple)
         graph = self.graph.copy()
         for step in steps:
             make(graph, step)
         if self.may_have_rings or not has_ring(graph):
+            self.edits += 1
             self.names |= given
             self.present.add(triple)
-            self.change(*steps, line=f"insert {subject} {predicate} {object_} .")
+            self.change(*steps, line=f"insert {spelled_triple(self.pick, triple)}")
 
     def delete(self):
         """Deletes a triple, in most cases one that was inserted."""
         triple = self.pick.choice(sorted(self.present)) if self.present and self.pick.randrange(4) else self.a_triple()
-        line, node = f"delete {' '.join(triple)} .", self.there(triple)
+        line, node = f"delete {spelled_triple(self.pick, triple)}", there(self.graph, self.names, triple)
+        self.edits += 1
         self.present.discard(triple)
         if node is None:
             self.say(line, writes("refused no-node"))
+            if self.changes_alone:
+                self.list_all()
             return
-        terms = dict.fromkeys((triple[0], triple[2]))
-        alone = [n for n in map(self.there, terms) if n is not None and set(self.graph.parents(n) + self.graph.children(n)) <= {node}]
+        terms = [there(self.graph, self.names, term) for term in dict.fromkeys((triple[0], triple[2]))]
+        alone = [n for n in terms if n is not None and set(self.graph.parents(n) + self.graph.children(n)) <= {node}]
         self.change(*[("drop", n) for n in [node] + alone], line=line)
 
     def node(self):
@@ -732,12 +916,12 @@ class Run:
             self.change(("unlink" if edge in self.graph.edges else "link", *edge))
 
     def index(self):
-        """The word of an index, and its level where it is an A(k)-index; the index may not be kept."""
+        """The word of an index, and its level where it has one; the index may not be kept."""
         i = self.pick.randrange(self.k + 2)
-        return self.pick.choice([(f"a{i}", i), (f"a{i}", i), ("one", None), ("fb", None)])
+        return self.pick.choice([(f"a{i}", i), (f"a{i}", i), (f"b{i}", i), ("one", None), ("fb", None)])
 
     def is_kept(self, word, i):
-        return word in self.kept if i is None else "a" in self.kept and i <= self.k
+        return word in self.kept if i is None else word[0] in self.kept and i <= self.k
 
     def path(self):
         e = expression(self.pick, 3)
@@ -752,7 +936,7 @@ class Run:
         elif i is None or longest(e) <= i + 1:
             written = [f"answers {len(found)} candidates {len(found)} exact"] + nodes
         else:
-            candidates = answers(self.graph, loosened(self.graph, level(self.graph, i)), e)
+            candidates = answers(self.graph, loosened(self.graph, related_in(self.graph, word, i)), e)
             written = [f"answers {len(found)} candidates {len(candidates)} checked"] + nodes
         self.say(f"path {word} {spelled(e)}", writes(*written))
 
@@ -792,14 +976,14 @@ class Run:
         word, i = self.index()
         if not self.is_kept(word, i):
             test = writes("refused no-index")
-        elif word == "fb":
+        elif word == "fb" or word[0] == "b" and depth_of_query(query) <= i:
             test = writes(f"answers {len(found)} candidates {len(found)} exact", *nodes)
         elif word == "one":
             graph = self.graph.copy()
             self.say("extents one", self.list_one())
             test = asks_one(graph, query, found, nodes)
         else:
-            candidates = branch_answers(self.graph, loosened(self.graph, level(self.graph, i)), relaxed(query))
+            candidates = branch_answers(self.graph, loosened(self.graph, related_in(self.graph, word, i)), relaxed(query))
             test = writes(f"answers {len(found)} candidates {len(candidates)} checked", *nodes)
         self.say(f"branch {word} {text}", test)
 
@@ -810,22 +994,22 @@ class Run:
         elif word == "one":
             test = self.list_one()
         else:
-            test = lists(self.graph.copy(), classes(self.graph, both_ways(self.graph) if i is None else level(self.graph, i)))
+            test = lists(self.graph.copy(), classes(self.graph, related_in(self.graph, word, i)))
         self.say(f"extents {word}", test)
 
     def sizes(self):
-        graph = self.graph.copy()
         if "one" in self.kept:
             self.say("extents one", self.list_one())
+        self.count()
+
+    def count(self):
+        """Asks for the sizes, the 1-index having been listed."""
+        graph = self.graph.copy()
         tests = [writes(f"nodes {len(graph.live())} edges {len(graph.edges)}")]
-        for i in range(self.k + 1 if "a" in self.kept else 0):
-            blocks = classes(graph, level(graph, i))
-            tests.append(writes(f"a{i} blocks {len(blocks)} edges {pairs_of(graph, blocks)}"))
-        if "one" in self.kept:
-            tests.append(sizes_one(graph))
-        if "fb" in self.kept:
-            blocks = classes(graph, both_ways(graph))
-            tests.append(writes(f"fb blocks {len(blocks)} edges {pairs_of(graph, blocks)}"))
+        tests += [sizes_by_definition(graph, *level) for level in self.levels("a")]
+        tests += [sizes_one(graph)] if "one" in self.kept else []
+        tests += [sizes_by_definition(graph, "fb", None)] if "fb" in self.kept else []
+        tests += [sizes_by_definition(graph, *level) for level in self.levels("b")]
         self.say("sizes", *tests)
 
     def fault(self, written, status):
@@ -841,28 +1025,39 @@ class Run:
         return None if status == wanted else f"wanted status {wanted}, got {status}"
 
 
+def written_by(program, lines, file, words):
+    """What the program writes for these lines of a script, and its status; it begins with these lines of a graph file, where there is one."""
+    with tempfile.TemporaryDirectory() as folder:
+        for name, content in ("script", lines), ("graph", file or []):
+            with open(os.path.join(folder, name), "w", encoding="utf-8") as out:
+                out.writelines(line + "\n" for line in content)
+        words = [os.path.join(folder, "script")] + ([] if file is None else ["--graph", os.path.join(folder, "graph")]) + words
+        done = subprocess.run([program] + words, capture_output=True, encoding="utf-8")
+    return done.stdout, done.returncode
+
+
 def main():
     if not 2 <= len(sys.argv) <= 4 or sys.argv[3:] not in ([], ["changes"], ["triples"]):
         sys.exit(__doc__)
     runs = int(sys.argv[2]) if len(sys.argv) > 2 else RUNS
-    changes, of_hubs, ones, walks = 0, 0, [0, 0], [0, 0]
+    changes, of_hubs, edits, loads, ones, walks = 0, 0, 0, 0, [0, 0], [0, 0]
     for seed in range(runs):
-        run = Run(seed, "".join(sys.argv[3:]))
-        with tempfile.NamedTemporaryFile("w", suffix=".script") as script:
-            script.write("".join(line + "\n" for line in run.script))
-            script.flush()
-            done = subprocess.run([sys.argv[1], script.name] + run.words, capture_output=True, text=True)
-        fault = run.fault(done.stdout, done.returncode)
+        run = Run(sys.argv[1], seed, "".join(sys.argv[3:]))
+        written, status = written_by(sys.argv[1], run.script, run.file, run.words)
+        fault = run.fault(written, status)
         if fault:
-            print("\n".join(run.script), f"\n{' '.join(run.words)}, written, with status {done.returncode}:\n{done.stdout}")
+            print("\n".join(run.script), f"\n{' '.join(run.words)}, over the graph file {run.file}, written, with status {status}:\n{written}")
             sys.exit(f"run {seed}: {fault}")
         changes += run.changes
         of_hubs += run.changes if run.has_hub else 0
+        edits += run.edits
+        loads += run.loads
         ones = [one + more for one, more in zip(ones, run.ones)]
         walks = [one + more for one, more in zip(walks, run.walks)]
     print(f"ok: {runs:,} runs, {changes:,} changes, {of_hubs:,} of them in runs with a hub; {walks[0]:,} least walks, {walks[1]:,} of more than one node")
+    print(f"{edits:,} inserts and deletes; the graph was compared with {loads:,} loads of the present triples")
     if len(sys.argv) == 4:
-        print(f"the 1-index was listed after {sum(ones):,} of them, {ones[0]:,} on acyclic graphs and {ones[1]:,} on graphs with cycles")
+        print(f"the 1-index was listed after {sum(ones):,} changes, {ones[0]:,} on acyclic graphs and {ones[1]:,} on graphs with cycles")
 
 
 if __name__ == "__main__":

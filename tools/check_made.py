@@ -18,8 +18,8 @@ import sys
 import tempfile
 
 from check_by_definition import (
-    Graph, Moves, Output, answers, both_ways, branch_answers, classes, level, lists, lists_one, loosened, longest, pairs_of, relaxed,
-    sizes_one, writes,
+    Graph, Moves, Output, answers, branch_answers, classes, lists, lists_one, loosened, longest, pairs_of, related_in, relaxed, sizes_one,
+    writes,
 )
 from workload import Draws, graph_file, script
 
@@ -76,7 +76,7 @@ class Loaded(Graph):
         command, *words = line.split()
         if command == "node":
             self.labels.append(words[0])
-            self.moves.add(self, len(self.labels) - 1)
+            self.moves.add(self, {len(self.labels) - 1})
             return writes(f"added n{len(self.labels) - 1}")
         edge = tuple(int(word[1:]) for word in words)
         had = edge in self.edges
@@ -84,16 +84,16 @@ class Loaded(Graph):
             return writes("refused no-edge")
         (self.edges.add if command == "link" else self.edges.discard)(edge)
         if had != (command == "link"):
-            self.moves.add(self, edge[1], edge)
+            self.moves.add(self, {edge[1]}, edge)
         return writes("ok")
 
 
 def listed(graph):
     """The lines that list all indexes, each with its test."""
     for i in LEVELS:
-        yield f"extents a{i}", lists(graph, classes(graph, level(graph, i)))
+        yield f"extents a{i}", lists(graph, classes(graph, related_in(graph, "a", i)))
     yield "extents one", graph.list_one()
-    yield "extents fb", lists(graph, classes(graph, both_ways(graph)))
+    yield "extents fb", lists(graph, classes(graph, related_in(graph, "fb", None)))
     yield "sizes", sized(graph.copy())
 
 
@@ -102,8 +102,8 @@ def sized(graph):
     def line(name, blocks):
         return writes(f"{name} blocks {len(blocks)} edges {pairs_of(graph, blocks)}")
     tests = [writes(f"nodes {len(graph.live())} edges {len(graph.edges)}")]
-    tests += [line(f"a{i}", classes(graph, level(graph, i))) for i in LEVELS]
-    tests += [sizes_one(graph), line("fb", classes(graph, both_ways(graph)))]
+    tests += [line(f"a{i}", classes(graph, related_in(graph, "a", i))) for i in LEVELS]
+    tests += [sizes_one(graph), line("fb", classes(graph, related_in(graph, "fb", None)))]
     return lambda output: next(filter(None, (test(output) for test in tests)), None)
 
 
@@ -115,7 +115,7 @@ def answered(found, candidates=None, how=""):
 
 def asked(graph):
     """The queries through each index, each with its test. Where the graph has no rings the 1-index is full bisimilarity."""
-    near, full = level(graph, LEVELS[-1]), level(graph, len(graph.labels))
+    near, full = related_in(graph, "a", LEVELS[-1]), related_in(graph, "a", None)
     for text, tree in PATHS:
         found = answers(graph, graph.edges, tree)
         exact = longest(tree) <= LEVELS[-1] + 1

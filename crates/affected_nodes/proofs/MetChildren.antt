@@ -43,6 +43,14 @@ has_place [] i h = absurd (omega (arith, h))
 has_place (x ∷ xs) zero h = elim (eqb_tells x x) [ inl s ↦ rw s.0 refl | inr d ↦ absurd (d.1 refl) ]
 has_place (x ∷ xs) (suc i) h = or_right (nat_eq (slice_index xs i) x) (has xs (slice_index xs i)) (has_place xs i (omega (arith, h)))
 
+-- what is met among children, and then among parents
+pub met_both : (before mid now : Bool) (a b : Bool) → mid ≡ (before || a) → now ≡ (mid || b) → now ≡ (before || (a || b))
+met_both before mid now a b first second = second ∙ ap (λ t. t || b) first ∙ three before a b
+  where
+    three : (x y z : Bool) → ((x || y) || z) ≡ (x || (y || z))
+    three true y z = refl
+    three false y z = refl
+
 -- the children of one more node
 pub spread_more : (s : Shape) (nodes met met2 : List ℕ) (i x : ℕ) → IsSpread s nodes i met → slice_index nodes i ≡ x → (rest : List ℕ) × (met2 ≡ met ++ rest)
     → ((c : ℕ) → has met2 c ≡ (has met c || s.edge x c)) → IsSpread s nodes (i + 1) met2

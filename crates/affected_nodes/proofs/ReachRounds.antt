@@ -1,5 +1,5 @@
 -- The search for all that is reached, one round after the other.
-use Rattle.std.proofs.Common.{◌≡◌, ℕ, zero, suc, ◌<◌, ◌≤◌, List, [], length, sym, ◌∙◌, subst, arith, inl, inr, true, Bool, append-nil, take}
+use Rattle.std.proofs.Common.{◌≡◌, ℕ, zero, suc, ◌*◌, ◌<◌, ◌≤◌, List, [], length, sym, ◌∙◌, subst, arith, inl, inr, true, Bool, append-nil, take}
 use Rattle.std.specs.Prelude.{nat_eq, slice_index}
 use Rattle.std.specs.List.{IsDistinct, sum_by}
 use Rattle.std.proofs.lemmas.List.Sums.{sum_by-take-le}
@@ -11,7 +11,8 @@ use Rattle.bisim_spec.proofs.Reached.{within_cases, reach_start, reach_step}
 use Rattle.change_spec.specs.Costs.{cost}
 use Rattle.graph_update.specs.PendingChanges.{Pending, graph_after}
 use Rattle.one_spec.proofs.Sums.{few_listed}
-use Rattle.affected_nodes.specs.ReadCosts.{children_cost}
+use Rattle.bisim_spec.specs.declared.sides.Sides.TheVariants as sides
+use Rattle.affected_nodes.specs.ReadCosts.{spread_cost}
 use Rattle.affected_nodes.specs.AffectedSearches.{IsSpread}
 use Rattle.affected_nodes.proofs.SearchCosts.{within_below, StartsAt, read_most}
 use Rattle.std.specs.Cmp.{both_ways}
@@ -66,7 +67,7 @@ reaching_all s from place met once p all = record {
 -- what is met is below the size
 met_below : (s : Shape) (from : ℕ → Bool) (place : ℕ) (met : List ℕ) → IsShape s → ((t : ℕ) → from t ≡ true → t < s.size) → IsReaching s from place met
     → (n : ℕ) → has met n ≡ true → n < s.size
-met_below s from place met shape allocated p n h = within_below s from shape allocated s.size n (p.only n h)
+met_below s from place met shape allocated p n h = within_below sides.Parents s from shape allocated s.size n (p.only n h)
 
 -- and so it is no more than there are numbers
 pub reaching_few : (s : Shape) (from : ℕ → Bool) (place : ℕ) (met : List ℕ) → IsDistinct nat_eq met → IsShape s → ((t : ℕ) → from t ≡ true → t < s.size) → IsReaching s from place met
@@ -78,13 +79,16 @@ reaching_few s from place met once shape allocated p =
 
 -- the children of all that was met
 pub reaching_most : (a : Pending) (from : ℕ → Bool) (place : ℕ) (met : List ℕ) → IsDistinct nat_eq met → StartsAt a from → IsReaching (shape_of (graph_after a)) from place met
-    → sum_by (children_cost a) met ≤ cost a.change a.before (reach (shape_of (graph_after a)) from)
-reaching_most a from place met once w p = read_most a from (shape_of (graph_after a)).size met w once p.only
+    → sum_by (spread_cost sides.Parents a) met ≤ cost a.change a.before (reach (shape_of (graph_after a)) from)
+reaching_most a from place met once w p =
+    let most = read_most sides.Parents a from (shape_of (graph_after a)).size met w once p.only in
+    let once_read : sum_by (spread_cost sides.Parents a) met ≤ 1 * cost a.change a.before (reach (shape_of (graph_after a)) from) = most in
+    omega (arith, once_read)
 
 -- and of the first of it
 pub reaching_part : (a : Pending) (from : ℕ → Bool) (place : ℕ) (met : List ℕ) → IsDistinct nat_eq met → StartsAt a from → IsReaching (shape_of (graph_after a)) from place met
-    → sum_by (children_cost a) (take place met) ≤ cost a.change a.before (reach (shape_of (graph_after a)) from)
+    → sum_by (spread_cost sides.Parents a) (take place met) ≤ cost a.change a.before (reach (shape_of (graph_after a)) from)
 reaching_part a from place met once w p =
     let all = reaching_most a from place met once w p in
-    let part = sum_by-take-le (children_cost a) met place in
+    let part = sum_by-take-le (spread_cost sides.Parents a) met place in
     omega (arith, all, part)

@@ -8,6 +8,7 @@ ghost use Rattle.change_spec.specs.Costs.{cost};
 ghost use Rattle.graph_update.specs.PendingChanges.{graph_after};
 
 use crate::reading::{meet, spread};
+use bisim_spec::Sides;
 use graph_update::After;
 use indexmap::IndexSet;
 use px_base::{Memory, NodeId, Steps};
@@ -37,7 +38,7 @@ pub fn reached_nodes<L: Ledger>(
     let mut from = 0;
     'rounds: while from < met.len() {
         let end = met.len();
-        spread(&mut met, from, after, steps)?;
+        spread(&mut met, Sides::Parents, from, after, steps)?;
         from = end;
     }
     let nodes = met.as_slice().to_vec(alloc)?;

@@ -12,9 +12,15 @@ use Rattle.graph_spec.specs.Members.{has, at}
 use Rattle.graph_spec.proofs.GraphLaws.{edge_with}
 use Rattle.label_graph.specs.GraphViews.{label_number}
 use Rattle.bisim_levels.specs.NeighbourSides.{no_neighbours}
+use Rattle.graph_spec.specs.Shapes.{shape_of}
+use Rattle.bisim_spec.specs.declared.sides.Side.{Side}
+use Rattle.bisim_spec.specs.declared.sides.Side.TheVariants as side
+use Rattle.bisim_spec.specs.declared.sides.Sides.TheVariants as sides
+use Rattle.bisim_spec.specs.SidedLevels.{counts, beside}
 use Rattle.bisim_levels.specs.Keys.{IsKey}
+use Rattle.bisim_levels.specs.SidedKeys.{mark, IsSidedKey}
 use Rattle.keyed_quotient.specs.KeyedQuotients.{KeyedQuotient, key_at, HasKey, AreKeyed}
-use Rattle.ak_family.specs.Families.{AreLabelKeys, AreParentKeys}
+use Rattle.ak_family.specs.Families.{AreLabelKeys, AreNeighbourKeys}
 
 abbrev two_nodes : Graph
 two_nodes = record { allocated = Some (97 ∷ []) ∷ Some (98 ∷ []) ∷ []; edges = set.empty; seen = (97 ∷ []) ∷ (98 ∷ []) ∷ [] }
@@ -119,37 +125,54 @@ label_keys = record { none = none; some = some; inhabited = inhabited }
     inhabited (suc (suc zero)) h = (1, refl)
     inhabited (suc (suc (suc k))) h = absurd (true≢false (sym h))
 
-first_key : IsKey (at blocks) blocks (has_edge linked) 0 (0 ∷ [])
+no_parent : (d : Side) (p : ℕ) → IsTrue (counts sides.Parents d) → IsTrue (beside d (shape_of linked) p 0) → ⊥
+no_parent side.Parents p c e = true≢false (sym e ∙ edge_is p 0 ∙ and-false (nat_eq p 0))
+no_parent side.Children p c e = true≢false (sym c)
+
+first_key : IsSidedKey sides.Parents (shape_of linked) blocks 0 (0 ∷ [])
 first_key = record {
   number = 0;
   around = [];
   is = refl;
   own_is = refl;
   rising = λ k h. absurd (omega (arith, h));
-  each = λ b h. absurd (true≢false (sym h));
-  every = λ p b h e. absurd (true≢false (sym h ∙ edge_is p 0 ∙ and-false (nat_eq p 0)));
+  each = λ c h. absurd (true≢false (sym h));
+  every = λ c q. absurd (no_parent q.side q.node q.counted q.is_beside);
 }
 
-second_key : IsKey (at blocks) blocks (has_edge linked) 1 (2 ∷ 0 ∷ [])
+one_parent : (d : Side) (p b c : ℕ) → IsTrue (counts sides.Parents d) → IsTrue (beside d (shape_of linked) p 1) → at blocks p ≡ Some b → c ≡ mark sides.Parents d b → IsTrue (has (0 ∷ []) c)
+one_parent side.Parents p b c k e h is =
+    let parent : p ≡ 0 = eqb-true p 0 (and_parts (nat_eq p 0) true (sym (edge_is p 1) ∙ e)).0 in
+    let block : Some 0 ≡ Some b = ap (at blocks) (sym parent) ∙ h in
+    let same : c ≡ b = is in
+    let zero_is : 0 ≡ c = cc in
+    subst (λ x. IsTrue (has (0 ∷ []) x)) zero_is refl
+one_parent side.Children p b c k e h is = absurd (true≢false (sym k))
+
+second_key : IsSidedKey sides.Parents (shape_of linked) blocks 1 (2 ∷ 0 ∷ [])
 second_key = record {
   number = 2;
   around = 0 ∷ [];
   is = refl;
   own_is = refl;
   rising = λ k h. absurd (omega (arith, h));
-  each = λ b h. (0, edge_is 0 1, (let zero_is : b ≡ 0 = eqb-true b 0 (sym (or-false (nat_eq b 0)) ∙ h) in ap Some (sym zero_is)));
-  every = λ p b h e.
-      let parent : p ≡ 0 = eqb-true p 0 (and_parts (nat_eq p 0) true (sym (edge_is p 1) ∙ h)).0 in
-      let block : Some 0 ≡ Some b = ap (at blocks) (sym parent) ∙ e in
-      let zero_is : 0 ≡ b = cc in
-      subst (λ c. IsTrue (has (0 ∷ []) c)) zero_is refl;
+  each = λ c h. record {
+    side = side.Parents;
+    counted = refl;
+    node = 0;
+    is_beside = edge_is 0 1;
+    block = 0;
+    has_block = refl;
+    is = eqb-true c 0 (sym (or-false (nat_eq c 0)) ∙ h);
+  };
+  every = λ c q. one_parent q.side q.node q.block c q.counted q.is_beside q.has_block q.is;
 }
 
-parent_keys : AreParentKeys linked gapped 0
+parent_keys : AreNeighbourKeys sides.Parents linked gapped 0
 parent_keys = record { none = λ n e. e; some = some; inhabited = inhabited }
   where
     some : (n b : ℕ) → at blocks n ≡ Some b
-        → (k : ℕ) × (key : List ℕ) × (at blocks n ≡ Some k) × (key_at next_keys k ≡ Some key) × IsKey (at blocks) blocks (has_edge linked) n key
+        → (k : ℕ) × (key : List ℕ) × (at blocks n ≡ Some k) × (key_at next_keys k ≡ Some key) × IsSidedKey sides.Parents (shape_of linked) blocks n key
     some zero b e = (0, 0 ∷ [], refl, refl, first_key)
     some (suc zero) b e = (2, 2 ∷ 0 ∷ [], refl, refl, second_key)
     some (suc (suc n)) b e = absurd (cc)
@@ -164,7 +187,7 @@ has_gap : (key : List ℕ) → HasKey (level next_keys) 1 key → ⊥
 has_gap key e = cc
 
 -- a key that ends with the own block is none
-own_block_last : IsKey (at blocks) blocks (has_edge linked) 1 (0 ∷ 2 ∷ []) → ⊥
+own_block_last : IsSidedKey sides.Parents (shape_of linked) blocks 1 (0 ∷ 2 ∷ []) → ⊥
 own_block_last k =
     let number : 0 ≡ k.number = ap first k.is in
     let own : Some 2 ≡ Some k.number = k.own_is in

@@ -8,7 +8,8 @@ use Rattle.graph_spec.specs.Members.{at}
 use Rattle.bisim_spec.proofs.Bisimilar.{none_or_some, is_some_at}
 use Rattle.bisim_levels.specs.NeighbourSides.{no_neighbours}
 use Rattle.bisim_levels.specs.Keys.{IsKey}
-use Rattle.bisim_levels.specs.Refinement.{AreNumbered, AreBlocksBelow}
+use Rattle.bisim_levels.specs.Refinement.{AreNumbered, AreNumberedBy, AreBlocksBelow}
+use Rattle.bisim_levels.specs.SidedKeys.{IsKeyBy}
 use Rattle.ak_family.specs.BlockLabels.{BlocksHaveListedLabels}
 
 get_before : (xs : List ℕ) (x j : ℕ) → j < length xs → slice_get (xs ++ x ∷ []) j ≡ slice_get xs j
@@ -67,24 +68,51 @@ labelled_lowest g next keys labels w first m b e =
     let k = member_key (label_number g) [] no_neighbours next (slice_get keys) w m b e in
     (k.is.number, first b k.numbers k.at ∙ key_first (label_number g) [] no_neighbours m k.numbers k.is, k.is.own_is)
 
+-- the same above it, whatever lies around nodes
+pub record MemberKeyBy (own : ℕ → Option ℕ) (Around : ℕ → ℕ → Type 0) (key : ℕ → Option (List ℕ)) (m b : ℕ) : Type 0 where
+  pub numbers : List ℕ
+  pub at : key b ≡ Some numbers
+  pub is : IsKeyBy own Around m numbers
+
+pub member_key_by : (own : ℕ → Option ℕ) (Around : ℕ → ℕ → Type 0) (next : List (Option ℕ)) (key : ℕ → Option (List ℕ)) → AreNumberedBy own (IsKeyBy own Around) next key
+    → (m b : ℕ) → at next m ≡ Some b → MemberKeyBy own Around key m b
+member_key_by own Around next key w m b e = elim (none_or_some (own m)) [
+  | inl none ↦ absurd (let z = w.none m none in cc)
+  | inr (c, some) ↦
+      (let f = w.some m c some in
+      let same : f.0 ≡ b = (let z = f.2 in cc) in
+      record { numbers = f.1; at = ap key (sym same) ∙ f.3; is = f.4 })
+]
+
+key_first_by : (own : ℕ → Option ℕ) (Around : ℕ → ℕ → Type 0) (n : ℕ) (key : List ℕ) (k : IsKeyBy own Around n key) → slice_get key 0 ≡ Some k.number
+key_first_by own Around n key k = ap (λ numbers. slice_get numbers 0) k.is
+
+pub keys_begin_by : (own : ℕ → Option ℕ) (Around : ℕ → ℕ → Type 0) (next : List (Option ℕ)) (key : ℕ → Option (List ℕ)) → AreNumberedBy own (IsKeyBy own Around) next key
+    → (b : ℕ) (numbers : List ℕ) → key b ≡ Some numbers → IsSome (slice_get numbers 0)
+keys_begin_by own Around next key w b numbers e =
+    let m = w.inhabited b (ap is_some e) in
+    let k = member_key_by own Around next key w m.0 b m.1 in
+    let same : k.numbers ≡ numbers = (let z = k.at in cc) in
+    is_some_at (slice_get numbers 0) k.is.number (ap (λ x. slice_get x 0) (sym same) ∙ key_first_by own Around m.0 k.numbers k.is)
+
 -- above it, it is a block of the level below, in which the members are
-pub labelled_above : (g : Graph) (block : List (Option ℕ)) (labels : List ℕ) (neighbour_of : ℕ → ℕ → Bool) (next : List (Option ℕ)) (keys : List (List ℕ)) (own found : List ℕ)
-    → BlocksHaveListedLabels g block labels → AreNumbered (at block) block neighbour_of next (slice_get keys) → AreFirst keys own
+pub labelled_above : (g : Graph) (block : List (Option ℕ)) (labels : List ℕ) (Around : ℕ → ℕ → Type 0) (next : List (Option ℕ)) (keys : List (List ℕ)) (own found : List ℕ)
+    → BlocksHaveListedLabels g block labels → AreNumberedBy (at block) (IsKeyBy (at block) Around) next (slice_get keys) → AreFirst keys own
     → ((b n : ℕ) → slice_get own b ≡ Some n → slice_get found b ≡ slice_get labels n) → BlocksHaveListedLabels g next found
-labelled_above g block labels neighbour_of next keys own found is w first looked m b e =
-    let k = member_key (at block) block neighbour_of next (slice_get keys) w m b e in
+labelled_above g block labels Around next keys own found is w first looked m b e =
+    let k = member_key_by (at block) Around next (slice_get keys) w m b e in
     let l = is m k.is.number k.is.own_is in
-    (l.0, looked b k.is.number (first b k.numbers k.at ∙ key_first (at block) block neighbour_of m k.numbers k.is) ∙ l.1, l.2)
+    (l.0, looked b k.is.number (first b k.numbers k.at ∙ key_first_by (at block) Around m k.numbers k.is) ∙ l.1, l.2)
 
 -- and that block has a label
-pub own_below : (g : Graph) (block : List (Option ℕ)) (labels : List ℕ) (neighbour_of : ℕ → ℕ → Bool) (next : List (Option ℕ)) (keys : List (List ℕ)) (own : List ℕ)
-    → BlocksHaveListedLabels g block labels → AreNumbered (at block) block neighbour_of next (slice_get keys) → AreBlocksBelow next (length keys) → AreFirst keys own → length own ≡ length keys
+pub own_below : (g : Graph) (block : List (Option ℕ)) (labels : List ℕ) (Around : ℕ → ℕ → Type 0) (next : List (Option ℕ)) (keys : List (List ℕ)) (own : List ℕ)
+    → BlocksHaveListedLabels g block labels → AreNumberedBy (at block) (IsKeyBy (at block) Around) next (slice_get keys) → AreBlocksBelow next (length keys) → AreFirst keys own → length own ≡ length keys
     → (b n : ℕ) → slice_get own b ≡ Some n → n < length labels
-own_below g block labels neighbour_of next keys own is w blocks first count b n e =
+own_below g block labels Around next keys own is w blocks first count b n e =
     let within = slice_get_within own b n e in
     let m = blocks.inhabited b (omega (arith, within, count)) in
-    let k = member_key (at block) block neighbour_of next (slice_get keys) w m.0 b m.1 in
-    let there = first b k.numbers k.at ∙ key_first (at block) block neighbour_of m.0 k.numbers k.is in
+    let k = member_key_by (at block) Around next (slice_get keys) w m.0 b m.1 in
+    let there = first b k.numbers k.at ∙ key_first_by (at block) Around m.0 k.numbers k.is in
     let same : k.is.number ≡ n = cc in
     subst (λ x. x < length labels) same (labelled_below g block labels is m.0 k.is.number k.is.own_is)
 

@@ -5,6 +5,7 @@ use Rattle.quotient.specs.Quotients.{view_of}
 use Rattle.keyed_quotient.specs.KeyedQuotients.{KeyedQuotient}
 use Rattle.keyed_quotient.specs.Changes.{KeyedChanges, no_keyed_changes, blocks_as_shown, labels_as_shown, support_as_shown, shown_key, IsKeyedOver, HasReservedKeys, IsSettled, AreUnsupported}
 use Rattle.level_spec.specs.Keyed.{KeysStay, AreLabelled}
+use Rattle.bisim_spec.specs.declared.sides.Sides.{Sides}
 use Rattle.ak_family.specs.Families.{level_at, AreKeyedBySupports}
 
 -- what is drafted at a level, and nothing past the last one
@@ -85,13 +86,16 @@ pub record KeepsLabelsAndKeys (f : List KeyedQuotient) (i : ℕ) (old new : List
 abbrev pub HaveReserved : List KeyedQuotient → List KeyedChanges → Type 0
 HaveReserved f d = (i : ℕ) → i < length f → HasReservedKeys (level_at f i) (changes_at d i)
 
--- What the draft shows is a family: its keys are as the labels, the levels below and the supports say. No pair with a block
--- without members has support.
+-- What the draft shows is a family. No pair with a block without members has support.
 pub record ShowsFamily (f : List KeyedQuotient) (d : List KeyedChanges) : Type 0 where
   pub over : AreOver f d
   pub lowest : AreLabelled (labels_shown f d 0) (key_shown f d 0)
-  pub above : (i : ℕ) → i + 1 < length f → AreKeyedBySupports (blocks_shown f d i) (blocks_shown f d (i + 1)) (key_shown f d (i + 1)) (support_shown f d (i + 1))
   pub empty : (i : ℕ) → i < length f → AreUnsupported (blocks_shown f d i) (support_shown f d i)
+
+-- its keys are as the levels below and the supports say
+pub record ShowsKeys (sides : Sides) (f : List KeyedQuotient) (d : List KeyedChanges) : Type 0 where
+  pub above : (i : ℕ) → i + 1 < length f
+      → AreKeyedBySupports sides (blocks_shown f d i) (blocks_shown f d (i + 1)) (key_shown f d (i + 1)) (support_shown f d (i + 1))
 
 -- each level has become what the draft showed there, without blocks that have no members
 pub record AreSettled (f : List KeyedQuotient) (d : List KeyedChanges) (new : List KeyedQuotient) : Type 0 where

@@ -1,16 +1,17 @@
 // The family.
 ghost use Rattle.std.specs.Prelude.{◌≡◌, ◌+◌, ◌<◌, ◌≤◌, ◌↔◌, ℕ, Some, IfOk, IsSome, IsTrue, length, slice_get};
 ghost use Rattle.graph_spec.specs.Shapes.{shape_of};
-ghost use Rattle.bisim_spec.specs.Bisimilarity.{Bis};
 ghost use Rattle.graph_spec.specs.Members.{at};
 ghost use Rattle.bisim_spec.specs.Partitions.{Agrees, Together};
 ghost use Rattle.bisim_spec.specs.IndexGraphs.{ViewFits};
 ghost use Rattle.quotient.specs.Quotients.{view_of};
 ghost use Rattle.keyed_quotient.specs.KeyedQuotients.{AreKeyed, key_at};
-ghost use Rattle.ak_family.specs.Families.{level_at, blocks_at, quotients_of, AreLabelKeys, AreParentKeys, IsKeyedFamily};
+ghost use Rattle.bisim_spec.specs.SidedLevels.{AtLevel};
+ghost use Rattle.ak_family.specs.Families.{level_at, blocks_at, quotients_of, AreLabelKeys, AreNeighbourKeys, HaveSupportedKeys, IsKeyedFamily};
 
 use crate::keyed::keyed_summary;
 use crate::labelled_levels::{above, lowest};
+use bisim_spec::Sides;
 use keyed_quotient::KeyedSummary;
 use label_graph::GraphView;
 use px_base::{Memory, NodeId};
@@ -18,15 +19,15 @@ use quotient::{EdgeList, Summary};
 use std::alloc::Global;
 use std::marker::Model;
 
-/// The A(0)- to A(k)-indexes of a graph, k at most 8. The blocks of level `i` are the classes of nodes that
-/// are bisimilar to level `i`: nodes of one label at level 0, and above it nodes that are together one
-/// level below, and whose parents are in the same blocks there. Each block has a key, which says this in
-/// numbers: the number of the label alone at level 0, and above it the own block one level below, and
-/// then the blocks of the parents one level below, rising, each once.
+/// Levels 0 to k of bisimilarity of a graph, k at most 8, by parents as the A(0)- to A(k)-indexes have them, or by
+/// parents and children. Level 0 has the nodes of one label in a block. Above it a block has the nodes that are together
+/// one level below, and whose neighbours on the sides that count are in the same blocks there. Each block has a key,
+/// which says this in numbers: the number of the label alone at level 0, and above it the own block one level below,
+/// and then, rising, each once, the numbers for the blocks of the neighbours there (`write_sided_key` of `bisim_levels`).
 ///
-/// The index of level 1 is a graph of its own:
+/// The A(1)-index is a graph of its own:
 ///
-///     let family = AkFamily::build(alloc, &graph.view(&mut steps), 2)?;
+///     let family = AkFamily::build(alloc, &graph.view(&mut steps), Sides::Parents, 2)?;
 ///     let blocks = eval(alloc, family.level(1), graph.labels(), &expr)?;
 pub struct AkFamily {
     pub(crate) levels: Vec<KeyedSummary>,
@@ -56,25 +57,34 @@ impl Model for AkFamily {
 }
 
 impl AkFamily {
-    /// The family of a graph. The edges are listed once. Each level reads the list of edges once, and above
-    /// level 0 each node's parents; where there isn't exactly one parent, their blocks are sorted. Expected
-    /// O((k + 1) (n + m log m)) for n node numbers and m edges. It takes the memory of a quotient and a table of
-    /// keys for each level, and while it runs 8 bytes an edge.
-    pub fn build(alloc: Global, view: &GraphView<'_>, k: u32) -> Result<AkFamily, Memory>
+    /// The family of a graph, by the sides that count: with parents alone the A(0)- to A(k)-indexes, with both sides the
+    /// bounded forward and backward indexes of levels 0 to k. The edges are listed once. Each level reads the list of
+    /// edges once, and above level 0 each node's neighbours on these sides, whose blocks are sorted, except where parents
+    /// alone count and there is exactly one. Expected O((k + 1) (n + m log m)) for n node numbers and m edges. It takes
+    /// the memory of a quotient and a table of keys for each level, and while it runs 8 bytes an edge.
+    pub fn build(
+        alloc: Global,
+        view: &GraphView<'_>,
+        sides: Sides,
+        k: u32,
+    ) -> Result<AkFamily, Memory>
         requires few { k ≤ 8 }
         ensures count { IfOk result (λ f. length f ≡ k + 1) }
         ensures fits { IfOk result (λ f. (i : ℕ) → i ≤ k → ViewFits view.now (view_of (level_at f i).quotient)) }
-        ensures agrees { IfOk result (λ f. (i : ℕ) → i ≤ k → Agrees (shape_of view.now) (blocks_at f i) (Bis (shape_of view.now) i)) }
+        ensures agrees { IfOk result (λ f. (i : ℕ) → i ≤ k → Agrees (shape_of view.now) (blocks_at f i) (AtLevel sides (shape_of view.now) i)) }
         ensures label_keys { IfOk result (AreLabelKeys view.now) }
-        ensures parent_keys { IfOk result (λ f. (i : ℕ) → i < k → AreParentKeys view.now f i) }
+        ensures neighbour_keys { IfOk result (λ f. (i : ℕ) → i < k → AreNeighbourKeys sides view.now f i) }
+        ensures supported { IfOk result (HaveSupportedKeys sides) }
     {
+        // Called for its contract: there is a graph, so that neighbours are among its nodes.
+        let _known = view.created();
         let edges = EdgeList::of(alloc, view)?;
         let (mut below, keys) = lowest(alloc, view)?;
         let mut levels = Vec::with_capacity(alloc, k as usize + 1)?;
         let level = keyed_summary(alloc, view, &edges, &below, keys)?;
         levels.push(level)?;
         for _ in 0..k {
-            let (next, keys) = above(alloc, view, &below)?;
+            let (next, keys) = above(alloc, view, sides, &below)?;
             let upper = keyed_summary(alloc, view, &edges, &next, keys)?;
             levels.push(upper)?;
             below = next;
@@ -91,7 +101,7 @@ impl AkFamily {
         self.levels.len() as u32 - 1
     }
 
-    /// The A(i)-index. O(1), no memory.
+    /// The index of level i. O(1), no memory.
     pub fn level(&self, i: u32) -> &Summary
         requires level { i < length self.now }
         ensures quotient { result.now ≡ (level_at self.now i).quotient }

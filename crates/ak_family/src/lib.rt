@@ -1,7 +1,8 @@
-//! The family of A(0)- to A(k)-indexes of a graph.
+//! Families of levels of bisimilarity of a graph: the A(0)- to A(k)-indexes, and the bounded forward and backward
+//! indexes.
 //!
 //! At level 0 a key is a label's number; above it a block's key is the block one level below of each member, and then
-//! those of its parents (`IsKeyedFamily`).
+//! numbers for those of its neighbours on the sides that count (`AreNeighbourKeys`).
 #![tactic(auto)]
 
 mod drafting;

@@ -2,8 +2,9 @@
 ghost use Rattle.std.specs.Prelude.{◌≡◌, ◌<◌, List, OnOk, length};
 ghost use Rattle.quotient.specs.Quotients.{view_of};
 ghost use Rattle.keyed_quotient.specs.KeyedQuotients.{KeyedQuotient};
-ghost use Rattle.ak_family.specs.Families.{HaveMembers, IsKeyedFamily};
-ghost use Rattle.ak_family.specs.LevelDrafts.{AreOver, AreSeenAs, HaveReserved, ShowsFamily, AreSettled, AreEmpty};
+ghost use Rattle.bisim_spec.specs.declared.sides.Sides.{Sides};
+ghost use Rattle.ak_family.specs.Families.{HaveMembers, IsKeyedFamily, HaveSupportedKeys};
+ghost use Rattle.ak_family.specs.LevelDrafts.{AreOver, AreSeenAs, HaveReserved, ShowsFamily, ShowsKeys, AreSettled, AreEmpty};
 
 use crate::drafting::{AkDraft, draft_of};
 use crate::family::AkFamily;
@@ -19,7 +20,9 @@ impl AkFamily {
         requires over { AreOver self.old d.now }
         ensures same { AreSeenAs self.old self.new }
         ensures over { AreOver self.new d.now }
+        ensures supported { (sides : Sides) → HaveSupportedKeys sides self.old → HaveSupportedKeys sides self.new }
         ensures shows { ShowsFamily self.old d.now → ShowsFamily self.new d.now }
+        ensures keys { (sides : Sides) → ShowsKeys sides self.old d.now → ShowsKeys sides self.new d.now }
         ensures settled { (f : List KeyedQuotient) → AreSettled self.new d.now f → AreSettled self.old d.now f }
         ensures reserved { OnOk result (HaveReserved self.new d.now) }
     {
@@ -35,6 +38,7 @@ impl AkFamily {
         requires shows { ShowsFamily self.old d.old }
         ensures settled { AreSettled self.old d.old self.new }
         ensures keyed { IsKeyedFamily self.new }
+        ensures supported { (sides : Sides) → ShowsKeys sides self.old d.old → HaveSupportedKeys sides self.new }
         ensures count { length d.new ≡ length d.old }
         ensures empty { AreEmpty d.new }
         ensures over { AreOver self.new d.new }

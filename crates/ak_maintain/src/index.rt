@@ -1,6 +1,20 @@
 // The index.
-use crate::kept::KeptLevels;
+use bisim_spec::Sides;
 use kept_index::KeptIndex;
+use kept_levels::{CountedSides, KeptLevels};
+
+/// Parents alone count.
+pub struct ByParents;
+
+impl CountedSides for ByParents {
+    ghost use Rattle.bisim_spec.specs.declared.sides.Sides.TheVariants.{Parents};
+
+    ghost counted = { Parents };
+
+    fn sides() -> Sides {
+        Sides::Parents
+    }
+}
 
 /// The A(0)- to A(k)-indexes of a graph, kept while it changes. A change is drafted over the family in force: at each level the
 /// affected nodes move to the blocks of their keys. How much of the graph is read depends on what is within reach of the
@@ -18,4 +32,4 @@ use kept_index::KeptIndex;
 ///     index.build(&graph.view(&mut steps), 2)?;
 ///     index.prepare(&graph, &change)?;
 ///     index.commit();
-pub type AkIndex = KeptIndex<KeptLevels>;
+pub type AkIndex = KeptIndex<KeptLevels<ByParents>>;

@@ -2,9 +2,7 @@
 #![tactic(auto)]
 
 mod index;
-mod kept;
 #[cfg(test)]
 mod tests;
 
-pub use index::AkIndex;
-pub use kept::KeptLevels;
+pub use index::{AkIndex, ByParents};

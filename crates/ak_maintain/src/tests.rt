@@ -1,7 +1,8 @@
 // The levels of two chains, of which one gets a further parent.
 ghost use Rattle.std.specs.Prelude.{◌≡◌, ◌<◌, IfOk, OnOk};
 ghost use Rattle.index_api.specs.Meanings.{IsReady, IsPrepared};
-ghost use Rattle.ak_maintain.specs.KeptFamilies.{meaning_of};
+ghost use Rattle.bisim_spec.specs.declared.sides.Sides.TheVariants.{Parents};
+ghost use Rattle.kept_levels.specs.KeptFamilies.{meaning_of};
 
 use super::*;
 use graph_update::{Change, Step, Verdict, judge};
@@ -87,7 +88,7 @@ fn built<L: Ledger>(alloc: Global, graph: &Graph, blank: Blank) -> Result<AkInde
     requires name { blank.name ≡ L.name }
     requires parts { blank.parts ≡ L.parts }
     requires some { 0 < blank.parts }
-    ensures { IfOk result (λ index. IsReady (meaning_of index.kept) graph.now.graph) }
+    ensures { IfOk result (λ index. IsReady (meaning_of Parents index.kept) graph.now.graph) }
 {
     let mut steps = Steps::<L>::new(blank);
     let mut index = AkIndex::new(alloc)?;
@@ -106,8 +107,8 @@ fn prepare<L: Ledger>(
     requires name { blank.name ≡ L.name }
     requires parts { blank.parts ≡ L.parts }
     requires some { 0 < blank.parts }
-    requires ready { IsReady (meaning_of index.old.kept) graph.now.graph }
-    ensures { OnOk result (IsPrepared (meaning_of index.old.kept) (meaning_of index.new.kept) change.now graph.now.graph) }
+    requires ready { IsReady (meaning_of Parents index.old.kept) graph.now.graph }
+    ensures { OnOk result (IsPrepared (meaning_of Parents index.old.kept) (meaning_of Parents index.new.kept) change.now graph.now.graph) }
 {
     let Ok(Verdict::New) = judge(graph, change, &Limits::program()) else {
         return Err("not new".into());
@@ -119,8 +120,8 @@ fn prepare<L: Ledger>(
 
 // Prepares a change, and cancels it.
 fn prepare_in_vain(index: &mut AkIndex, graph: &Graph, change: &Change) -> Result<(), Fail>
-    requires ready { IsReady (meaning_of index.old.kept) graph.now.graph }
-    ensures { OnOk result (IsReady (meaning_of index.new.kept) graph.now.graph) }
+    requires ready { IsReady (meaning_of Parents index.old.kept) graph.now.graph }
+    ensures { OnOk result (IsReady (meaning_of Parents index.new.kept) graph.now.graph) }
 {
     prepare::<Brand>(index, graph, change, Blank::new(1))?;
     index.cancel();
@@ -134,7 +135,7 @@ fn prepare_and_commit(
     graph: &Graph,
     change: &Change,
 ) -> Result<(), Fail>
-    requires ready { IsReady (meaning_of index.old.kept) graph.now.graph }
+    requires ready { IsReady (meaning_of Parents index.old.kept) graph.now.graph }
 {
     prepare::<Brand>(index, graph, change, Blank::new(1))?;
     check_before(rt, index);
@@ -148,7 +149,7 @@ fn check_kept(
     index: &mut AkIndex,
     graph: &Graph,
 ) -> Result<(), Fail>
-    requires ready { IsReady (meaning_of index.old.kept) graph.now.graph }
+    requires ready { IsReady (meaning_of Parents index.old.kept) graph.now.graph }
 {
     let change = Change::one(alloc, Step::Link(6, 3))?;
     prepare_in_vain(index, graph, &change)?;

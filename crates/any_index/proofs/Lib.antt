@@ -1,1 +1,1 @@
-pub mod ThreeBoxes
+pub mod FourBoxes

@@ -1,7 +1,8 @@
-// An index of any of the three kinds.
+// An index of any of the four kinds.
 use ak_maintain::AkIndex;
 use bisim_spec::Kind;
 use fb_index::FbIndex;
+use fbk_index::FbkIndex;
 use graph_update::Change;
 use index_api::PathIndex;
 use label_graph::{Graph, GraphView};
@@ -9,7 +10,7 @@ use one_maintain::OneKept;
 use px_base::Memory;
 use quotient::Summary;
 
-/// An index of any of the three kinds: an engine over these needs no boxes. What each call costs, and the memory that
+/// An index of any of the four kinds: an engine over these needs no boxes. What each call costs, and the memory that
 /// it takes, are those of the index that it holds.
 ///
 /// The 1-index of a graph, as one of them:
@@ -23,6 +24,8 @@ pub enum AnyIndex {
     One(OneKept),
     /// The forward and backward index.
     Fb(FbIndex),
+    /// The bounded forward and backward indexes.
+    B(FbkIndex),
 }
 
 // Written out, so that the proof of an owner sees one call and not the drop of each table.
@@ -32,6 +35,7 @@ impl Drop for AnyIndex {
             AnyIndex::A(_index) => {}
             AnyIndex::One(_index) => {}
             AnyIndex::Fb(_index) => {}
+            AnyIndex::B(_index) => {}
         }
     }
 }
@@ -46,6 +50,7 @@ impl PathIndex for AnyIndex {
             AnyIndex::A(index) => index.kind(),
             AnyIndex::One(index) => index.kind(),
             AnyIndex::Fb(index) => index.kind(),
+            AnyIndex::B(index) => index.kind(),
         }
     }
 
@@ -54,6 +59,7 @@ impl PathIndex for AnyIndex {
             AnyIndex::A(index) => index.build(view, k),
             AnyIndex::One(index) => index.build(view, k),
             AnyIndex::Fb(index) => index.build(view, k),
+            AnyIndex::B(index) => index.build(view, k),
         }
     }
 
@@ -62,6 +68,7 @@ impl PathIndex for AnyIndex {
             AnyIndex::A(index) => index.prepare(graph, change),
             AnyIndex::One(index) => index.prepare(graph, change),
             AnyIndex::Fb(index) => index.prepare(graph, change),
+            AnyIndex::B(index) => index.prepare(graph, change),
         }
     }
 
@@ -70,6 +77,7 @@ impl PathIndex for AnyIndex {
             AnyIndex::A(index) => index.commit(),
             AnyIndex::One(index) => index.commit(),
             AnyIndex::Fb(index) => index.commit(),
+            AnyIndex::B(index) => index.commit(),
         }
     }
 
@@ -78,6 +86,7 @@ impl PathIndex for AnyIndex {
             AnyIndex::A(index) => index.cancel(),
             AnyIndex::One(index) => index.cancel(),
             AnyIndex::Fb(index) => index.cancel(),
+            AnyIndex::B(index) => index.cancel(),
         }
     }
 
@@ -86,6 +95,7 @@ impl PathIndex for AnyIndex {
             AnyIndex::A(index) => index.refresh(view),
             AnyIndex::One(index) => index.refresh(view),
             AnyIndex::Fb(index) => index.refresh(view),
+            AnyIndex::B(index) => index.refresh(view),
         }
     }
 
@@ -94,6 +104,7 @@ impl PathIndex for AnyIndex {
             AnyIndex::A(index) => index.summary(level),
             AnyIndex::One(index) => index.summary(level),
             AnyIndex::Fb(index) => index.summary(level),
+            AnyIndex::B(index) => index.summary(level),
         }
     }
 }

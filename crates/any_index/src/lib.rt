@@ -1,4 +1,4 @@
-//! An index of any of the three kinds, as one type, and an engine that keeps one of each kind.
+//! An index of any of the four kinds, as one type, and an engine that keeps one of each kind.
 #![tactic(auto)]
 
 mod any;

@@ -8,15 +8,17 @@ use Rattle.graph_spec.specs.Members.{at}
 use Rattle.bisim_spec.proofs.Bisimilar.{some_of, none_or_some, is_some_at}
 use Rattle.bisim_spec.proofs.Together.{block_below}
 use Rattle.bisim_levels.specs.Keys.{IsKey}
-use Rattle.bisim_levels.specs.Refinement.{Refines, AreNumbered, AreBlocksBelow, Numbers}
+use Rattle.bisim_levels.specs.Refinement.{Refines, AreNumbered, AreNumberedBy, AreBlocksBelow, NumbersBy}
+use Rattle.bisim_levels.specs.SidedKeys.{IsKeyBy, RefinesBy}
 use Rattle.bisim_levels.proofs.WrittenKeys.{together_from_key, key_from_together}
+use Rattle.bisim_levels.proofs.KeyLaws.{stay_from_key, key_from_stay}
 
 -- the nodes below n are numbered
-pub record NumberedBelow (own : ℕ → Option ℕ) (base : List (Option ℕ)) (neighbour_of : ℕ → ℕ → Bool) (n : ℕ) (keys : List (List ℕ)) (next : List (Option ℕ)) : Type 0 where
+pub record NumberedBelow (own : ℕ → Option ℕ) (HasKey : ℕ → List ℕ → Type 0) (n : ℕ) (keys : List (List ℕ)) (next : List (Option ℕ)) : Type 0 where
   pub length_is : length next ≡ n
   pub none : (m : ℕ) → m < n → own m ≡ None → at next m ≡ None
   pub some : (m b : ℕ) → m < n → own m ≡ Some b
-      → (k : ℕ) × (key : List ℕ) × (at next m ≡ Some k) × (slice_get keys k ≡ Some key) × IsKey own base neighbour_of m key
+      → (k : ℕ) × (key : List ℕ) × (at next m ≡ Some k) × (slice_get keys k ≡ Some key) × HasKey m key
   pub inhabited : (k : ℕ) → k < length keys → (m : ℕ) × (at next m ≡ Some k)
 
 pub get_append : (xs ys : List (List ℕ)) (k : ℕ) (x : List ℕ) → slice_get xs k ≡ Some x → slice_get (xs ++ ys) k ≡ Some x
@@ -46,17 +48,17 @@ pub distinct_none : AreDistinct []
 distinct_none = record { apart = λ i j key e f. absurd (cc) }
 
 -- a node without a block takes no key
-pub numbers_none : (own : ℕ → Option ℕ) (base : List (Option ℕ)) (neighbour_of : ℕ → ℕ → Bool) (n : ℕ) (keys : List (List ℕ)) → own n ≡ None → Numbers own base neighbour_of n keys keys None
-numbers_none own base neighbour_of n keys none = record {
+pub numbers_none : (own : ℕ → Option ℕ) (HasKey : ℕ → List ℕ → Type 0) (n : ℕ) (keys : List (List ℕ)) → own n ≡ None → NumbersBy own HasKey n keys keys None
+numbers_none own HasKey n keys none = record {
   stay = λ k key e. e;
   none = λ e. refl;
   some = λ b e. absurd (let z = none in cc);
   fresh = λ k l m. absurd (omega (arith, l, m));
 }
 
-pub numbers_some : (own : ℕ → Option ℕ) (base : List (Option ℕ)) (neighbour_of : ℕ → ℕ → Bool) (n number k : ℕ) (old new : List (List ℕ)) (key : List ℕ) → own n ≡ Some number
-    → Interns old new key k → IsKey own base neighbour_of n key → Numbers own base neighbour_of n old new (Some k)
-numbers_some own base neighbour_of n number k old new key own_is interned is = elim interned [
+pub numbers_some : (own : ℕ → Option ℕ) (HasKey : ℕ → List ℕ → Type 0) (n number k : ℕ) (old new : List (List ℕ)) (key : List ℕ) → own n ≡ Some number
+    → Interns old new key k → HasKey n key → NumbersBy own HasKey n old new (Some k)
+numbers_some own HasKey n number k old new key own_is interned is = elim interned [
   | inl (there, same) ↦ record {
     stay = λ j x e. ap (λ ks. slice_get ks j) same ∙ e;
     none = λ e. absurd (let z = own_is in cc);
@@ -71,8 +73,8 @@ numbers_some own base neighbour_of n number k old new key own_is interned is = e
   }
 ]
 
-pub numbered_start : (own : ℕ → Option ℕ) (base : List (Option ℕ)) (neighbour_of : ℕ → ℕ → Bool) → NumberedBelow own base neighbour_of 0 [] []
-numbered_start own base neighbour_of = record {
+pub numbered_start : (own : ℕ → Option ℕ) (HasKey : ℕ → List ℕ → Type 0) → NumberedBelow own HasKey 0 [] []
+numbered_start own HasKey = record {
   length_is = refl;
   none = λ m h e. absurd (omega (arith, h));
   some = λ m b h e. absurd (omega (arith, h));
@@ -85,9 +87,9 @@ at_before next o m h = get_or_append_left next (o ∷ []) None m h
 at_last : (next : List (Option ℕ)) (o : Option ℕ) (n : ℕ) → length next ≡ n → at (next ++ o ∷ []) n ≡ o
 at_last next o n h = get_or_push next o None n h
 
-pub numbered_more : (own : ℕ → Option ℕ) (base : List (Option ℕ)) (neighbour_of : ℕ → ℕ → Bool) (n : ℕ) (keys keys2 : List (List ℕ)) (next : List (Option ℕ)) (o : Option ℕ)
-    → NumberedBelow own base neighbour_of n keys next → Numbers own base neighbour_of n keys keys2 o → NumberedBelow own base neighbour_of (n + 1) keys2 (next ++ o ∷ [])
-numbered_more own base neighbour_of n keys keys2 next o w s =
+pub numbered_more : (own : ℕ → Option ℕ) (HasKey : ℕ → List ℕ → Type 0) (n : ℕ) (keys keys2 : List (List ℕ)) (next : List (Option ℕ)) (o : Option ℕ)
+    → NumberedBelow own HasKey n keys next → NumbersBy own HasKey n keys keys2 o → NumberedBelow own HasKey (n + 1) keys2 (next ++ o ∷ [])
+numbered_more own HasKey n keys keys2 next o w s =
     let long = w.length_is in
     let below : (m : ℕ) → m < n → at (next ++ o ∷ []) m ≡ at next m = λ m h. at_before next o m (omega (arith, long, h)) in
     let last : (m : ℕ) → m ≡ n → at (next ++ o ∷ []) m ≡ o = λ m e. ap (at (next ++ o ∷ [])) e ∙ at_last next o n long in
@@ -102,7 +104,7 @@ numbered_more own base neighbour_of n keys keys2 next o w s =
         | inr past ↦
             (let here : m ≡ n = omega (arith, h, past) in
             let f = s.some b (ap own (sym here) ∙ e) in
-            (f.0, f.1, last m here ∙ f.2, f.3, subst (λ k. IsKey own base neighbour_of k f.1) (sym here) f.4))
+            (f.0, f.1, last m here ∙ f.2, f.3, subst (λ k. HasKey k f.1) (sym here) f.4))
       ];
       inhabited = λ k h. elim (cases_lt k (length keys)) [
         | inl before ↦ (let f = w.inhabited k before in (f.0, below f.0 (let l = block_below next f.0 (is_some_at (at next f.0) k f.1) in omega (arith, l, long)) ∙ f.1))
@@ -111,9 +113,9 @@ numbered_more own base neighbour_of n keys keys2 next o w s =
     }
 
 -- when all nodes with a block are numbered
-pub numbered_all : (own : ℕ → Option ℕ) (base : List (Option ℕ)) (neighbour_of : ℕ → ℕ → Bool) (n : ℕ) (keys : List (List ℕ)) (next : List (Option ℕ))
-    → NumberedBelow own base neighbour_of n keys next → ((m : ℕ) → IsSome (own m) → m < n) → AreNumbered own base neighbour_of next (slice_get keys)
-numbered_all own base neighbour_of n keys next w within = record {
+pub numbered_all : (own : ℕ → Option ℕ) (HasKey : ℕ → List ℕ → Type 0) (n : ℕ) (keys : List (List ℕ)) (next : List (Option ℕ))
+    → NumberedBelow own HasKey n keys next → ((m : ℕ) → IsSome (own m) → m < n) → AreNumberedBy own HasKey next (slice_get keys)
+numbered_all own HasKey n keys next w within = record {
   none = λ m e. elim (cases_lt m n) [
     | inl before ↦ w.none m before e
     | inr past ↦ get_or_past next m None (let l = w.length_is in omega (arith, l, past))
@@ -123,15 +125,15 @@ numbered_all own base neighbour_of n keys next w within = record {
 }
 
 -- a numbered node has a block, and that is the number of its key
-record KeyAt (own : ℕ → Option ℕ) (base : List (Option ℕ)) (neighbour_of : ℕ → ℕ → Bool) (key : ℕ → Option (List ℕ)) (m k : ℕ) : Type 0 where
+record KeyAt (own : ℕ → Option ℕ) (HasKey : ℕ → List ℕ → Type 0) (key : ℕ → Option (List ℕ)) (m k : ℕ) : Type 0 where
   own_some : IsSome (own m)
   numbers : List ℕ
   at : key k ≡ Some numbers
-  is : IsKey own base neighbour_of m numbers
+  is : HasKey m numbers
 
-key_of_block : (own : ℕ → Option ℕ) (base : List (Option ℕ)) (neighbour_of : ℕ → ℕ → Bool) (key : ℕ → Option (List ℕ)) (next : List (Option ℕ)) → AreNumbered own base neighbour_of next key
-    → (m k : ℕ) → at next m ≡ Some k → KeyAt own base neighbour_of key m k
-key_of_block own base neighbour_of key next w m k e = elim (none_or_some (own m)) [
+key_of_block : (own : ℕ → Option ℕ) (HasKey : ℕ → List ℕ → Type 0) (key : ℕ → Option (List ℕ)) (next : List (Option ℕ)) → AreNumberedBy own HasKey next key
+    → (m k : ℕ) → at next m ≡ Some k → KeyAt own HasKey key m k
+key_of_block own HasKey key next w m k e = elim (none_or_some (own m)) [
   | inl none ↦ absurd (let z = w.none m none in cc)
   | inr (b, some) ↦
       (let f = w.some m b some in
@@ -150,10 +152,10 @@ pub numbered_refines : (own : ℕ → Option ℕ) (base : List (Option ℕ)) (ne
     → AreNumbered own base neighbour_of next key → Refines own base neighbour_of next
 numbered_refines own base neighbour_of key next blocks apart w = record {
   kept = λ m h. let b = some_of (own m) h in let f = w.some m b.0 b.1 in is_some_at (at next m) f.0 f.2;
-  only = λ m h. let k = some_of (at next m) h in (key_of_block own base neighbour_of key next w m k.0 k.1).own_some;
+  only = λ m h. let k = some_of (at next m) h in (key_of_block own (IsKey own base neighbour_of) key next w m k.0 k.1).own_some;
   parted = λ u v t.
-      let a = key_of_block own base neighbour_of key next w u t.0 t.1 in
-      let b = key_of_block own base neighbour_of key next w v t.0 t.2 in
+      let a = key_of_block own (IsKey own base neighbour_of) key next w u t.0 t.1 in
+      let b = key_of_block own (IsKey own base neighbour_of) key next w v t.0 t.2 in
       let same : b.numbers ≡ a.numbers = (let x = a.at in let y = b.at in cc) in
       together_from_key own base neighbour_of u v a.numbers blocks a.is (subst (IsKey own base neighbour_of v) same b.is);
   grouped = λ u v same.
@@ -164,10 +166,29 @@ numbered_refines own base neighbour_of key next blocks apart w = record {
       (f.0, f.2, g.2 ∙ ap Some (sym numbers));
 }
 
+-- the same by what lies around nodes
+pub numbered_refines_by : (own : ℕ → Option ℕ) (Around : ℕ → ℕ → Type 0) (key : ℕ → Option (List ℕ)) (next : List (Option ℕ))
+    → ((i j : ℕ) (k : List ℕ) → key i ≡ Some k → key j ≡ Some k → i ≡ j) → AreNumberedBy own (IsKeyBy own Around) next key → RefinesBy own Around next
+numbered_refines_by own Around key next apart w = record {
+  kept = λ m h. let b = some_of (own m) h in let f = w.some m b.0 b.1 in is_some_at (at next m) f.0 f.2;
+  only = λ m h. let k = some_of (at next m) h in (key_of_block own (IsKeyBy own Around) key next w m k.0 k.1).own_some;
+  parted = λ u v c e f.
+      let a = key_of_block own (IsKeyBy own Around) key next w u c e in
+      let b = key_of_block own (IsKeyBy own Around) key next w v c f in
+      let same : b.numbers ≡ a.numbers = (let x = a.at in let y = b.at in cc) in
+      stay_from_key own Around u v a.numbers a.is (subst (IsKeyBy own Around v) same b.is);
+  grouped = λ u v same.
+      let f = w.some u same.one_number.0 same.one_number.1 in
+      let g = w.some v same.one_number.0 same.one_number.2 in
+      let keys_same = key_from_stay own Around u v f.1 g.1 same f.4 g.4 in
+      let numbers : f.0 ≡ g.0 = apart f.0 g.0 g.1 (f.3 ∙ ap Some keys_same) g.3 in
+      (f.0, f.2, g.2 ∙ ap Some (sym numbers));
+}
+
 -- the blocks are the numbers of the keys
-pub numbered_below : (own : ℕ → Option ℕ) (base : List (Option ℕ)) (neighbour_of : ℕ → ℕ → Bool) (keys : List (List ℕ)) (next : List (Option ℕ)) → AreNumbered own base neighbour_of next (slice_get keys)
+pub numbered_below : (own : ℕ → Option ℕ) (HasKey : ℕ → List ℕ → Type 0) (keys : List (List ℕ)) (next : List (Option ℕ)) → AreNumberedBy own HasKey next (slice_get keys)
     → AreBlocksBelow next (length keys)
-numbered_below own base neighbour_of keys next w = record {
-  below = λ n b e. let k = key_of_block own base neighbour_of (slice_get keys) next w n b e in slice_get_within keys b k.numbers k.at;
+numbered_below own HasKey keys next w = record {
+  below = λ n b e. let k = key_of_block own HasKey (slice_get keys) next w n b e in slice_get_within keys b k.numbers k.at;
   inhabited = λ b h. w.inhabited b (is_some_at (slice_get keys b) (get_or keys b []) (slice_get-get_or keys b [] h));
 }

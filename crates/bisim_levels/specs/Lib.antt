@@ -1,3 +1,4 @@
 pub mod NeighbourSides
 pub mod Keys
 pub mod Refinement
+pub mod SidedKeys

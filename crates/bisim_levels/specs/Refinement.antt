@@ -25,18 +25,15 @@ pub record Refines (own : ℕ → Option ℕ) (base : List (Option ℕ)) (neighb
 
 -- The blocks of next are numbered by the keys of their members, where key gives the key of a number, or none: a node's block
 -- has the node's key, and each number with a key is the block of some node.
-pub record AreNumbered (own : ℕ → Option ℕ) (base : List (Option ℕ)) (neighbour_of : ℕ → ℕ → Bool) (next : List (Option ℕ)) (key : ℕ → Option (List ℕ)) : Type 0 where
+pub record AreNumberedBy (own : ℕ → Option ℕ) (HasKey : ℕ → List ℕ → Type 0) (next : List (Option ℕ)) (key : ℕ → Option (List ℕ)) : Type 0 where
   pub none : (n : ℕ) → own n ≡ None → at next n ≡ None
   pub some : (n b : ℕ) → own n ≡ Some b
-      → (k : ℕ) × (numbers : List ℕ) × (at next n ≡ Some k) × (key k ≡ Some numbers) × IsKey own base neighbour_of n numbers
+      → (k : ℕ) × (numbers : List ℕ) × (at next n ≡ Some k) × (key k ≡ Some numbers) × HasKey n numbers
   pub inhabited : (k : ℕ) → IsSome (key k) → (n : ℕ) × (at next n ≡ Some k)
 
--- The blocks of next are numbered by keys over both sides: nodes are parted by their parents, and these parts by their
--- children, both times with the blocks of one partition, and a block's key is that of the second step.
-pub record AreNumberedTwice (block : List (Option ℕ)) (parents children : ℕ → ℕ → Bool) (next : List (Option ℕ)) (key : ℕ → Option (List ℕ)) : Type 0 where
-  pub parted : List (Option ℕ)
-  pub by_parents : Refines (at block) block parents parted
-  pub by_children : AreNumbered (at parted) block children next key
+-- the same by the blocks of neighbours of one kind
+abbrev pub AreNumbered : (ℕ → Option ℕ) → List (Option ℕ) → (ℕ → ℕ → Bool) → List (Option ℕ) → (ℕ → Option (List ℕ)) → Type 0
+AreNumbered own base neighbour_of = AreNumberedBy own (IsKey own base neighbour_of)
 
 -- the blocks are the numbers below the count, each with a member
 pub record AreBlocksBelow (next : List (Option ℕ)) (count : ℕ) : Type 0 where
@@ -45,11 +42,11 @@ pub record AreBlocksBelow (next : List (Option ℕ)) (count : ℕ) : Type 0 wher
 
 -- One more node is numbered: keys that were there stay; the number is that of the node's key, and none where the node has
 -- no block; a key that is new is that of the node.
-pub record Numbers (own : ℕ → Option ℕ) (base : List (Option ℕ)) (neighbour_of : ℕ → ℕ → Bool) (n : ℕ) (old new : List (List ℕ)) (number : Option ℕ) : Type 0 where
+pub record NumbersBy (own : ℕ → Option ℕ) (HasKey : ℕ → List ℕ → Type 0) (n : ℕ) (old new : List (List ℕ)) (number : Option ℕ) : Type 0 where
   pub stay : (k : ℕ) (key : List ℕ) → slice_get old k ≡ Some key → slice_get new k ≡ Some key
   pub none : own n ≡ None → number ≡ None
   pub some : (b : ℕ) → own n ≡ Some b
-      → (k : ℕ) × (key : List ℕ) × (number ≡ Some k) × (slice_get new k ≡ Some key) × IsKey own base neighbour_of n key
+      → (k : ℕ) × (key : List ℕ) × (number ≡ Some k) × (slice_get new k ≡ Some key) × HasKey n key
   pub fresh : (k : ℕ) → length old ≤ k → k < length new → number ≡ Some k
 
 -- Whatever the level: where the one partition is into the classes of a relation at that level, the other is into those

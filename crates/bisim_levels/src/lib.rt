@@ -7,7 +7,7 @@ mod neighbour_lists;
 mod recent_keys;
 mod refining;
 
-pub use keys::{block_of, single_block, write_key};
-pub use levels::{label_level, next_level, next_level_both};
+pub use keys::{block_of, single_block, write_key, write_sided_key};
+pub use levels::label_level;
 pub use neighbour_lists::neighbours;
-pub use refining::{Level, refine};
+pub use refining::{Level, next_level};

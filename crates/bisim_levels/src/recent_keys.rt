@@ -2,9 +2,11 @@
 ghost use Rattle.std.specs.Prelude.{◌≡◌, [], ℕ, List, IfOk, IsTrue, Some, slice_get};
 ghost use Rattle.graph_spec.specs.Members.{at};
 ghost use Rattle.key_table.specs.NumberedKeys.{AreDistinct, Interns};
+ghost use Rattle.bisim_spec.specs.declared.sides.Sides.TheVariants as sided;
 ghost use Rattle.bisim_levels.specs.Keys.{IsWritten};
+ghost use Rattle.bisim_levels.specs.SidedKeys.{on_side, IsWrittenBy};
 
-use crate::keys::{block_of, write_key};
+use crate::keys::{block_of, write_both_key, write_key};
 use key_table::KeyTable;
 use px_base::{Memory, NodeId, Recent};
 use std::alloc::Global;
@@ -72,6 +74,29 @@ impl RecentKeys {
         ensures distinct { IfOk result (λ k. AreDistinct self.new) }
     {
         write_key(&mut self.written, nodes, number, |n| block_of(base, n))?;
+        self.table.intern(&self.written)
+    }
+
+    /// The number of the key of a node with these parents and children, which all count, and whose own block has this
+    /// number.
+    pub(crate) fn intern_both(
+        &mut self,
+        base: &[Option<u32>],
+        parents: &[NodeId],
+        children: &[NodeId],
+        number: u32,
+    ) -> Result<u32, Memory>
+        ensures ok { IfOk result (λ k. (key : List ℕ) × IsWrittenBy sided.Both (at base.now) (on_side parents.now children.now) number key
+            × Interns self.old self.new key k) }
+        ensures distinct { IfOk result (λ k. AreDistinct self.new) }
+    {
+        write_both_key(
+            &mut self.written,
+            parents,
+            children,
+            number,
+            |n| block_of(base, n),
+        )?;
         self.table.intern(&self.written)
     }
 }

@@ -4,7 +4,7 @@ use Rattle.graph_spec.specs.Graphs.{Graph, IsGraph}
 use Rattle.graph_spec.specs.Shapes.{shape_of}
 use Rattle.graph_spec.proofs.GraphLaws.{is_shape}
 use Rattle.bisim_spec.specs.declared.kind.Kind.{Kind}
-use Rattle.bisim_spec.specs.declared.kind.Kind.TheVariants.{A, One, Fb}
+use Rattle.bisim_spec.specs.declared.kind.Kind.TheVariants.{A, One, Fb, B}
 use Rattle.bisim_spec.specs.Bisimilarity.{Bisim}
 use Rattle.bisim_spec.specs.Partitions.{Agrees}
 use Rattle.bisim_spec.specs.Stability.{Stable, Minimal}
@@ -18,6 +18,7 @@ pub count_lawful : (kind : Kind) (k : ℕ) → HasCount kind (view_count kind k)
 count_lawful A k = omega arith
 count_lawful One k = refl
 count_lawful Fb k = refl
+count_lawful B k = omega arith
 
 -- a view whose partition is stable, and of which no two blocks can be merged, is one of the 1-index
 pub fits_one : (g : Graph) (v : View) → IsGraph g → ViewFits g v → Stable (shape_of g) v.block_of → Minimal (shape_of g) v.block_of → FitsOne g v

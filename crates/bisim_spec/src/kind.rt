@@ -12,4 +12,7 @@ pub enum Kind {
     /// The forward and backward index: the coarsest partition that is stable under parents and children (Kaushik
     /// et al., SIGMOD 2002).
     Fb,
+    /// The family of bounded forward and backward indexes: two nodes are in one block where they are bisimilar, by
+    /// their parents and children, up to depth i (Kaushik et al., SIGMOD 2002).
+    B,
 }

@@ -11,7 +11,7 @@ use Rattle.command_line.proofs.Usages.{plain_form}
 -- ---- worked words
 
 abbrev run_of : Option (List ℕ) → ℕ → Form
-run_of graph k = runs (record { script = codes "s"; graph = graph; k = k; without_one = false; without_fb = false })
+run_of graph k = runs (record { script = codes "s"; graph = graph; k = k; without_one = false; without_fb = false; with_bk = false })
 
 script_alone : form_of (codes "s" ∷ []) ≡ run_of None 2
 unfolding clap_on_literals
@@ -30,13 +30,17 @@ unfolding clap_on_literals
 graph_first = refl
 
 both_flags : form_of (codes "s" ∷ codes "--without-one" ∷ codes "--without-fb" ∷ [])
-    ≡ runs (record { script = codes "s"; graph = None; k = 2; without_one = true; without_fb = true })
+    ≡ runs (record { script = codes "s"; graph = None; k = 2; without_one = true; without_fb = true; with_bk = false })
 unfolding clap_on_literals
 both_flags = refl
 
-flag_first : form_of (codes "--without-fb" ∷ codes "s" ∷ []) ≡ runs (record { script = codes "s"; graph = None; k = 2; without_one = false; without_fb = true })
+flag_first : form_of (codes "--without-fb" ∷ codes "s" ∷ []) ≡ runs (record { script = codes "s"; graph = None; k = 2; without_one = false; without_fb = true; with_bk = false })
 unfolding clap_on_literals
 flag_first = refl
+
+bounded_flag : form_of (codes "s" ∷ codes "--with-bk" ∷ []) ≡ runs (record { script = codes "s"; graph = None; k = 2; without_one = false; without_fb = false; with_bk = true })
+unfolding clap_on_literals
+bounded_flag = refl
 
 seed_alone : form_of (codes "--make" ∷ codes "1" ∷ []) ≡ makes 1
 unfolding clap_on_literals
@@ -56,12 +60,12 @@ unfolding clap_on_literals
 with_equals_sign = refl
 
 -- a script may be named as a subcommand would be
-named_help : form_of (codes "help" ∷ []) ≡ runs (record { script = codes "help"; graph = None; k = 2; without_one = false; without_fb = false })
+named_help : form_of (codes "help" ∷ []) ≡ runs (record { script = codes "help"; graph = None; k = 2; without_one = false; without_fb = false; with_bk = false })
 unfolding clap_on_literals
 named_help = refl
 
 -- to clap an empty word is a text like others
-empty_name : form_of ([] ∷ []) ≡ runs (record { script = []; graph = None; k = 2; without_one = false; without_fb = false })
+empty_name : form_of ([] ∷ []) ≡ runs (record { script = []; graph = None; k = 2; without_one = false; without_fb = false; with_bk = false })
 unfolding clap_on_literals
 empty_name = refl
 
@@ -131,6 +135,10 @@ seed_and_other_flag : form_of (codes "--without-fb" ∷ codes "--make" ∷ codes
 unfolding clap_on_literals
 seed_and_other_flag = refl
 
+seed_and_bounded : form_of (codes "--make" ∷ codes "1" ∷ codes "--with-bk" ∷ []) ≡ neither
+unfolding clap_on_literals
+seed_and_bounded = refl
+
 no_script : form_of (codes "--graph" ∷ codes "g" ∷ []) ≡ neither
 unfolding clap_on_literals
 no_script = refl
@@ -164,7 +172,7 @@ repeated_level s m n p q r =
 -- a text that names no level
 no_level : (s n : List ℕ) → IsPlainText s → IsPlainText n → level_of n ≡ None → form_of (s ∷ codes "--k" ∷ n ∷ []) ≡ neither
 no_level s n p q none =
-    plain_form (of_script (record { script = s; graph = None; k = Some n; without_one = false; without_fb = false })) (p, tt, q) ∙ ap (λ level. run_with (Some s) None level false false) none
+    plain_form (of_script (record { script = s; graph = None; k = Some n; without_one = false; without_fb = false; with_bk = false })) (p, tt, q) ∙ ap (λ level. run_with (Some s) None level false false false) none
 
 -- a script beside a seed
 seed_and_script : (s t : List ℕ) → IsPlainText s → IsPlainText t → form_of (codes "--make" ∷ t ∷ s ∷ []) ≡ neither

@@ -11,7 +11,7 @@ use Rattle.command_line.specs.declared.form.Settings.{Settings as SettingsSeen}
 use Rattle.command_line.specs.declared.given.Given.{Given as GivenSeen}
 
 abbrev pub settings_value : SettingsSeen → Settings
-settings_value s = record { script = s.script.now; graph = option_map (λ t. t.now) s.graph; k = s.k; without_one = s.without_one; without_fb = s.without_fb }
+settings_value s = record { script = s.script.now; graph = option_map (λ t. t.now) s.graph; k = s.k; without_one = s.without_one; without_fb = s.without_fb; with_bk = s.with_bk }
 
 abbrev pub form_value : FormSeen → Form
 form_value (Run s) = runs (settings_value s)
@@ -26,6 +26,7 @@ given_value g = record {
   make = option_map (λ t. t.now) g.make;
   without_one = g.without_one;
   without_fb = g.without_fb;
+  with_bk = g.with_bk;
 }
 
 -- the form that is read is the one that these texts and flags give

@@ -12,6 +12,8 @@ pub record Settings : Type 0 where
   -- whether no 1-index is kept, and no forward and backward index
   pub without_one : Bool
   pub without_fb : Bool
+  -- whether the bounded forward and backward indexes are kept
+  pub with_bk : Bool
 
 pub data Form : Type 0 where
   -- a script is run

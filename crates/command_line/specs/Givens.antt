@@ -13,6 +13,7 @@ pub record Given : Type 0 where
   pub make : Option (List ℕ)
   pub without_one : Bool
   pub without_fb : Bool
+  pub with_bk : Bool
 
 -- the words `0` (48) to `8` (56) name levels, and no others do
 abbrev pub level_of : List ℕ → Option ℕ
@@ -26,11 +27,11 @@ level_or_default None = Some 2
 level_or_default (Some text) = level_of text
 
 -- a script is run where there is one, and a level
-abbrev pub run_with : Option (List ℕ) → Option (List ℕ) → Option ℕ → Bool → Bool → Form
-run_with None graph level without_one without_fb = neither
-run_with (Some script) graph None without_one without_fb = neither
-run_with (Some script) graph (Some level) without_one without_fb =
-    runs (record { script = script; graph = graph; k = level; without_one = without_one; without_fb = without_fb })
+abbrev pub run_with : Option (List ℕ) → Option (List ℕ) → Option ℕ → Bool → Bool → Bool → Form
+run_with None graph level without_one without_fb with_bk = neither
+run_with (Some script) graph None without_one without_fb with_bk = neither
+run_with (Some script) graph (Some level) without_one without_fb with_bk =
+    runs (record { script = script; graph = graph; k = level; without_one = without_one; without_fb = without_fb; with_bk = with_bk })
 
 -- 1 to 20 decimal digits, leading zeros allowed
 abbrev pub is_numeral : List ℕ → Bool
@@ -42,7 +43,7 @@ seed_of text = if is_numeral text && nat_lt (digits_value 10 text) (2 ^ 64) then
 
 -- something other than a seed is given
 abbrev pub has_others : Given → Bool
-has_others g = is_some g.script || is_some g.graph || is_some g.k || g.without_one || g.without_fb
+has_others g = is_some g.script || is_some g.graph || is_some g.k || g.without_one || g.without_fb || g.with_bk
 
 -- a seed alone
 abbrev pub make_with : Option ℕ → Form
@@ -51,7 +52,7 @@ make_with (Some seed) = makes seed
 
 -- the texts that are made from a seed, or a script
 abbrev pub form_with : Option (List ℕ) → Given → Form
-form_with None g = run_with g.script g.graph (level_or_default g.k) g.without_one g.without_fb
+form_with None g = run_with g.script g.graph (level_or_default g.k) g.without_one g.without_fb g.with_bk
 form_with (Some text) g = if has_others g then neither else make_with (seed_of text)
 
 abbrev pub form_given : Given → Form

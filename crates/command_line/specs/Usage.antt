@@ -2,13 +2,14 @@
 use Rattle.std.specs.Prelude.{ℕ, ◌≢◌, Bool, true, false, List, [], ◌∷◌, ◌++◌, Option, Some, None, IfSome, codes}
 use Rattle.command_line.specs.Givens.{Given}
 
--- SCRIPT [--graph FILE] [--k N] [--without-one] [--without-fb]
+-- SCRIPT [--graph FILE] [--k N] [--without-one] [--without-fb] [--with-bk]
 pub record ScriptUsage : Type 0 where
   pub script : List ℕ
   pub graph : Option (List ℕ)
   pub k : Option (List ℕ)
   pub without_one : Bool
   pub without_fb : Bool
+  pub with_bk : Bool
 
 -- one alternative of the usage line: a script, or --make SEED
 pub data Usage : Type 0 where
@@ -40,9 +41,12 @@ one_words u = flag_words (codes "--without-one") u.without_one
 abbrev pub fb_words : ScriptUsage → List (List ℕ)
 fb_words u = flag_words (codes "--without-fb") u.without_fb
 
+abbrev pub bk_words : ScriptUsage → List (List ℕ)
+bk_words u = flag_words (codes "--with-bk") u.with_bk
+
 -- in the order of the usage line
 abbrev pub words_of : Usage → List (List ℕ)
-words_of (of_script u) = script_words u ++ (graph_words u ++ (level_words u ++ (one_words u ++ fb_words u)))
+words_of (of_script u) = script_words u ++ (graph_words u ++ (level_words u ++ (one_words u ++ (fb_words u ++ bk_words u))))
 words_of (of_seed seed) = codes "--make" ∷ seed ∷ []
 
 -- the other orders of a script's words without flags
@@ -62,11 +66,11 @@ words_in level_graph_script u = level_words u ++ (graph_words u ++ script_words 
 
 -- just these texts and flags
 abbrev pub given_with : ScriptUsage → Given
-given_with u = record { script = Some u.script; graph = u.graph; k = u.k; make = None; without_one = u.without_one; without_fb = u.without_fb }
+given_with u = record { script = Some u.script; graph = u.graph; k = u.k; make = None; without_one = u.without_one; without_fb = u.without_fb; with_bk = u.with_bk }
 
 -- just this seed
 abbrev pub given_seed : List ℕ → Given
-given_seed seed = record { script = None; graph = None; k = None; make = Some seed; without_one = false; without_fb = false }
+given_seed seed = record { script = None; graph = None; k = None; make = Some seed; without_one = false; without_fb = false; with_bk = false }
 
 abbrev pub given_by : Usage → Given
 given_by (of_script u) = given_with u
@@ -74,7 +78,7 @@ given_by (of_seed seed) = given_seed seed
 
 -- the texts without the flags
 abbrev pub flagless : ScriptUsage → ScriptUsage
-flagless u = record u { without_one = false; without_fb = false }
+flagless u = record u { without_one = false; without_fb = false; with_bk = false }
 
 -- just these texts, and no flag
 abbrev pub given_texts : ScriptUsage → Given

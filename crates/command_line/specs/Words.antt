@@ -24,9 +24,13 @@ bare = on_top (λ s. record s { no_binary_name = true }) (new_app (codes "pathin
 abbrev pub texts : App
 texts = with_rule (with_rule (with_rule bare (new_rule (codes "script"))) (option_rule (codes "graph"))) (option_rule (codes "k"))
 
--- the option --make, and two flags
+-- the option --make too
+abbrev pub seeded : App
+seeded = with_rule texts (option_rule (codes "make"))
+
+-- and three flags
 abbrev pub command : App
-command = with_rule (with_rule (with_rule texts (option_rule (codes "make"))) (flag_rule (codes "without-one"))) (flag_rule (codes "without-fb"))
+command = with_rule (with_rule (with_rule seeded (flag_rule (codes "without-one"))) (flag_rule (codes "without-fb"))) (flag_rule (codes "with-bk"))
 
 abbrev pub is_no_fault : Kinds → Bool
 is_no_fault [] = true
@@ -50,6 +54,7 @@ given_in rows = record {
   make = first_of (codes "make") rows;
   without_one = is_set (first_of (codes "without-one") rows);
   without_fb = is_set (first_of (codes "without-fb") rows);
+  with_bk = is_set (first_of (codes "with-bk") rows);
 }
 
 -- what the words give, if clap takes them

@@ -20,12 +20,14 @@ pub struct Settings<'a> {
     pub script: &'a str,
     /// The name of the graph's file, if one is loaded before the script.
     pub graph: Option<&'a str>,
-    /// The highest level of the A(k)-indexes that are kept, from 0 to 8.
+    /// The highest level of the A(k)-indexes and the bounded forward and backward indexes that are kept, from 0 to 8.
     pub k: u32,
     /// Whether no 1-index is kept.
     pub without_one: bool,
     /// Whether no forward and backward index is kept.
     pub without_fb: bool,
+    /// Whether the bounded forward and backward indexes are kept.
+    pub with_bk: bool,
 }
 
 /// What the words of the command line ask for.
@@ -78,6 +80,7 @@ fn run_with<'a>(given: &Given<'a>) -> Form<'a>
             k,
             without_one: given.without_one,
             without_fb: given.without_fb,
+            with_bk: given.with_bk,
         }),
         None => Form::Neither,
     }
@@ -118,6 +121,7 @@ fn has_others(given: &Given) -> bool
         || given.k.is_some()
         || given.without_one
         || given.without_fb
+        || given.with_bk
 }
 
 fn make_with<'a>(given: &Given<'a>, text: &str) -> Form<'a>
@@ -150,8 +154,8 @@ fn judge<'a>(given: Option<Given<'a>>) -> Form<'a>
     }
 }
 
-/// What the words after the program's name ask for: `SCRIPT [--graph FILE] [--k N] [--without-one] [--without-fb]`,
-/// where N is one of the words `0` to `8`, and 2 where the option isn't there; or `--make SEED`, where SEED is 1 to 20
+/// What the words after the program's name ask for:
+/// `SCRIPT [--graph FILE] [--k N] [--without-one] [--without-fb] [--with-bk]`, where N is one of the words `0` to `8`, and 2 where the option isn't there; or `--make SEED`, where SEED is 1 to 20
 /// decimal digits of a number below 2^64. The words are those that `clap` reads for this command. Whatever it refuses
 /// is malformed, and so is a call for help. O(b) for words of b bytes; it takes memory for `clap`'s table of the options and
 /// for what it reads into it.

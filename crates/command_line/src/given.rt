@@ -19,6 +19,7 @@ pub(crate) struct Given<'a> {
     pub(crate) make: Option<&'a str>,
     pub(crate) without_one: bool,
     pub(crate) without_fb: bool,
+    pub(crate) with_bk: bool,
 }
 
 // What clap makes of the words; none where it refuses them. Running out of memory is no refusal.
@@ -61,6 +62,7 @@ fn gather<'a>(matches: &ArgMatches<'a>) -> Given<'a>
         make: text_of(matches, "make"),
         without_one: has_flag(matches, "without-one"),
         without_fb: has_flag(matches, "without-fb"),
+        with_bk: has_flag(matches, "with-bk"),
     }
 }
 

@@ -1,7 +1,7 @@
 // What clap is told of the command line.
 ghost use Rattle.std.specs.Prelude.{◌≡◌, IfOk, codes, false};
 ghost use Rattle.clap.specs.Words.{app_of, new_rule, rule_of, with_rule};
-ghost use Rattle.command_line.specs.Words.{bare, command, flag_rule, option_rule, texts};
+ghost use Rattle.command_line.specs.Words.{bare, command, flag_rule, option_rule, seeded, texts};
 
 use clap::{Arg, ArgAction, Command};
 use std::alloc::{AllocError, Global};
@@ -41,12 +41,19 @@ fn text_command<'a>(alloc: Global) -> Result<Command<'a>, AllocError>
         .arg(text_option(alloc, "k"))
 }
 
+// The option that names a seed too.
+fn seed_command<'a>(alloc: Global) -> Result<Command<'a>, AllocError>
+    ensures { IfOk result (λ c. app_of c ≡ seeded) }
+{
+    text_command(alloc)?.arg(text_option(alloc, "make"))
+}
+
 // The whole command. Neither its script nor an option is required, and no rule ties them together.
 pub(crate) fn make_command<'a>(alloc: Global) -> Result<Command<'a>, AllocError>
     ensures { IfOk result (λ c. app_of c ≡ command) }
 {
-    text_command(alloc)?
-        .arg(text_option(alloc, "make"))?
+    seed_command(alloc)?
         .arg(flag(alloc, "without-one"))?
-        .arg(flag(alloc, "without-fb"))
+        .arg(flag(alloc, "without-fb"))?
+        .arg(flag(alloc, "with-bk"))
 }

@@ -21,16 +21,18 @@ fn run<'a>(graph: Option<&'a str>, k: u32) -> Form<'a> {
         k,
         without_one: false,
         without_fb: false,
+        with_bk: false,
     })
 }
 
-fn run_without<'a>(without_one: bool, without_fb: bool) -> Form<'a> {
+fn run_flagged<'a>(without_one: bool, without_fb: bool, with_bk: bool) -> Form<'a> {
     Form::Run(Settings {
         script: "s",
         graph: None,
         k: 2,
         without_one,
         without_fb,
+        with_bk,
     })
 }
 
@@ -42,8 +44,12 @@ fn plain_words_name_a_script(rt: HostRuntime) -> Result<(), Fail> {
         ("s --k 0", run(None, 0)),
         ("s --graph g --k 8", run(Some("g"), 8)),
         ("--graph g s", run(Some("g"), 2)),
-        ("s --without-one", run_without(true, false)),
-        ("s --without-one --without-fb", run_without(true, true)),
+        ("s --without-one", run_flagged(true, false, false)),
+        (
+            "s --without-one --without-fb",
+            run_flagged(true, true, false),
+        ),
+        ("s --with-bk --k 2", run_flagged(false, false, true)),
         ("--make 7", Form::Make(7)),
     ];
     for (line, form) in rows {

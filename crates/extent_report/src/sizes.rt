@@ -34,6 +34,7 @@ fn push_via(out: &mut String, via: Via) -> Result<(), Memory>
         Via::A(level) => push_number(out, "a", u64::from(level))?,
         Via::One => out.push_str("one")?,
         Via::Fb => out.push_str("fb")?,
+        Via::B(level) => push_number(out, "b", u64::from(level))?,
     }
     Ok(())
 }

@@ -1,10 +1,10 @@
 -- Lists of edges that come and go: what is left of them, and supports on the way.
-use Rattle.std.proofs.Common.{◌≡◌, ◌≢◌, ℕ, zero, suc, ◌+◌, ◌<◌, ◌≤◌, ◌^◌, List, [], ◌∷◌, ◌++◌, length, Option, Some, None, IsTrue, IsFalse, refl, sym, ◌∙◌, ap, subst, arith, inl, inr, true, false, Bool, cond, take, get_or, true≢false}
+use Rattle.std.proofs.Common.{◌≡◌, ℕ, zero, suc, ◌+◌, ◌<◌, ◌≤◌, ◌^◌, List, [], ◌∷◌, ◌++◌, length, Option, Some, refl, sym, ◌∙◌, ap, subst, arith, inl, inr, true, false, Bool, take, get_or, true≢false}
 use Rattle.std.specs.Prelude.{nat_eq, ◌&&◌, ◌||◌, not}
 use Rattle.std.specs.List.{list_any, IsDistinct, AllByRecursion}
 use Rattle.std.specs.FinSet as set
 use Rattle.std.proofs.lemmas.Bool.{cases_Bool, and_parts, and_from, false_from_ne_true}
-use Rattle.std.proofs.lemmas.Bool.Decides.{eqb_tells, Decides-eqb}
+use Rattle.std.proofs.lemmas.Bool.Decides.{Decides-eqb}
 use Rattle.std.proofs.lemmas.List.{take_more}
 use Rattle.std.proofs.Math.Bool.{or-true}
 use Rattle.std.proofs.lemmas.Map.Keys.{IsDistinct-head, IsDistinct-tail}
@@ -19,7 +19,7 @@ use Rattle.bisim_spec.proofs.EdgeSets.{kept, same_len, kept_len}
 use Rattle.bisim_spec.proofs.Moves.{between_linked, between_unlinked, between_most}
 use Rattle.bisim_spec.proofs.EdgeSupports.{adjacent_support}
 use Rattle.one_spec.specs.EdgeCounts.{AreEdgeCounts}
-use Rattle.graph_effects.specs.Effects.{same_pair, has_pair, ListsPairs, without_edges, with_edges}
+use Rattle.graph_effects.specs.Effects.{same_pair, has_pair, without_edges, with_edges}
 
 -- ---- what is left
 

@@ -1,5 +1,5 @@
 -- What effects say of the two graphs between which they lead.
-use Rattle.std.proofs.Common.{◌≡◌, ◌≢◌, ℕ, ◌+◌, List, [], ◌∷◌, ◌++◌, Option, Some, None, IsTrue, IsFalse, is_some, refl, sym, ◌∙◌, ap, inl, inr, true, false, Bool, cond, true≢false}
+use Rattle.std.proofs.Common.{◌≡◌, ℕ, List, [], ◌∷◌, ◌++◌, Option, Some, None, IsTrue, IsFalse, is_some, refl, sym, ◌∙◌, ap, inl, inr, true, false, Bool, cond, true≢false}
 use Rattle.std.specs.Prelude.{nat_eq, ◌&&◌, ◌||◌, not, slice_get, option_and_then, position, bytes_eq}
 use Rattle.std.proofs.Math.Bool.{or-false}
 use Rattle.std.proofs.lemmas.Bool.{cases_Bool, and_parts, false_from_ne_true}
@@ -150,7 +150,7 @@ counts_after g g2 e block support w counts =
 
 -- ---- the graphs differ at the targets alone
 
-no_change : (a b : Bool) → (a && not b) ≡ false → (b && not a) ≡ false → a ≡ b
+pub no_change : (a b : Bool) → (a && not b) ≡ false → (b && not a) ≡ false → a ≡ b
 no_change true true h k = refl
 no_change true false h k = absurd (true≢false h)
 no_change false true h k = absurd (true≢false k)

@@ -6,3 +6,4 @@ pub mod NamedPairs
 pub mod GoneEdges
 pub mod Relabelled
 pub mod StepEffects
+pub mod EffectEnds

@@ -1,21 +1,22 @@
 -- The pairs that steps name, each once, and what happens to all others.
-use Rattle.std.proofs.Common.{◌≡◌, ◌≢◌, ℕ, Bool, true, false, List, [], ◌∷◌, ◌++◌, Option, refl, sym, ap, ◌∙◌, subst, inl, inr, true≢false}
+use Rattle.std.proofs.Common.{◌≡◌, ◌≢◌, ◌≤◌, ℕ, Bool, true, false, List, [], ◌∷◌, ◌++◌, length, drop as drop_first, Option, refl, sym, ap, ◌∙◌, subst, inl, inr, true≢false}
 use Rattle.std.specs.Prelude.{nat_eq, ◌&&◌, ◌||◌, not}
 use Rattle.std.specs.List.{list_any, IsDistinct}
 use Rattle.std.proofs.Math.Bool.{or-false, and-false, and-true}
 use Rattle.std.proofs.lemmas.Bool.{cases_Bool, and_parts, or_parts}
 use Rattle.std.proofs.lemmas.Bool.Decides.{Decides-eqb}
-use Rattle.std.proofs.lemmas.List.{append_assoc}
+use Rattle.std.proofs.lemmas.List.{append_assoc, append-nil, drop_all}
 use Rattle.std.proofs.lemmas.List.Folds.{list_any-append}
 use Rattle.std.proofs.lemmas.Map.Keys.{IsDistinct-cons}
 use Rattle.graph_spec.specs.Graphs.{Graph, IsGraph, is_live, has_edge}
 use Rattle.change_spec.specs.Steps.{Step, node, link, unlink, drop, relabel, after}
 use Rattle.change_spec.specs.Places.{CanMakeAll}
-use Rattle.change_spec.specs.Named.{takes_away, is_dropped}
+use Rattle.change_spec.specs.Named.{names, takes_away, is_named, is_dropped}
 use Rattle.change_spec.specs.Shown.{concerns, concerned}
 use Rattle.change_spec.proofs.ShownNeighbours.{edge_all, unconcerned}
 use Rattle.graph_steps.specs.declared.changes.Step.{Step as Asked}
 use Rattle.graph_steps.specs.StepLists.{step_of, steps_of}
+use Rattle.graph_steps.specs.NamedSteps.{AreNaming}
 use Rattle.graph_effects.specs.Effects.{same_pair, has_pair, ListsPairs, is_new_edge}
 use Rattle.graph_effects.specs.StepEffects.{pair_if, names_pair, unless_named, named_last, passing, named_where, is_cut}
 use Rattle.graph_effects.proofs.GoneNodes.{none_in, undropped}
@@ -168,21 +169,65 @@ added_lists c g can graph = named_lists (is_new_edge g (after c g)) c why
 
 -- ---- as they are found
 
-found_as : (p : ℕ → ℕ → Bool) (c : List Step) (ss : List Asked) (old new : List (ℕ × ℕ)) → ListsPairs p (named_where p c) → c ≡ steps_of ss → old ≡ [] → new ≡ old ++ named_where p (steps_of ss) → ListsPairs p new
-found_as p c ss old new l same none e = subst (ListsPairs p) (sym (e ∙ ap (λ es. es ++ named_where p (steps_of ss)) none ∙ ap (named_where p) (sym same))) l
+found_as : (p : ℕ → ℕ → Bool) (c k : List Step) (old new : List (ℕ × ℕ)) → ListsPairs p (named_where p c) → c ≡ k → old ≡ [] → new ≡ old ++ named_where p k → ListsPairs p new
+found_as p c k old new l same none e = subst (ListsPairs p) (sym (e ∙ ap (λ es. es ++ named_where p k) none ∙ ap (named_where p) (sym same))) l
 
-pub cut_found : (c : List Step) (g : Graph) (ss : List Asked) (old new : List (ℕ × ℕ)) → CanMakeAll c g → c ≡ steps_of ss → old ≡ []
-    → new ≡ old ++ named_where (is_cut g (after c g)) (steps_of ss) → ListsPairs (is_cut g (after c g)) new
-cut_found c g ss old new can same none e = found_as (is_cut g (after c g)) c ss old new (cut_lists c g can) same none e
+pub cut_found : (c : List Step) (g : Graph) (k : List Step) (old new : List (ℕ × ℕ)) → CanMakeAll c g → c ≡ k → old ≡ []
+    → new ≡ old ++ named_where (is_cut g (after c g)) k → ListsPairs (is_cut g (after c g)) new
+cut_found c g k old new can same none e = found_as (is_cut g (after c g)) c k old new (cut_lists c g can) same none e
 
-pub added_found : (c : List Step) (g : Graph) (ss : List Asked) (old new : List (ℕ × ℕ)) → CanMakeAll c g → IsGraph (after c g) → c ≡ steps_of ss → old ≡ []
-    → new ≡ old ++ named_where (is_new_edge g (after c g)) (steps_of ss) → ListsPairs (is_new_edge g (after c g)) new
-added_found c g ss old new can graph same none e = found_as (is_new_edge g (after c g)) c ss old new (added_lists c g can graph) same none e
+pub added_found : (c : List Step) (g : Graph) (k : List Step) (old new : List (ℕ × ℕ)) → CanMakeAll c g → IsGraph (after c g) → c ≡ k → old ≡ []
+    → new ≡ old ++ named_where (is_new_edge g (after c g)) k → ListsPairs (is_new_edge g (after c g)) new
+added_found c g k old new can graph same none e = found_as (is_new_edge g (after c g)) c k old new (added_lists c g can graph) same none e
 
 -- ---- one step more
 
-pub named_next : (p : ℕ → ℕ → Bool) (s : Asked) (ss left : List Asked) (o : Option (ℕ × ℕ)) (xs ys whole : List (ℕ × ℕ)) → left ≡ s ∷ ss → xs ++ named_where p (steps_of left) ≡ whole
-    → o ≡ named_last (step_of s) (steps_of ss) → ys ≡ xs ++ passing p o → ys ++ named_where p (steps_of ss) ≡ whole
-named_next p s ss left o xs ys whole cut h is e =
-    ap (λ zs. zs ++ named_where p (steps_of ss)) (e ∙ ap (λ t. xs ++ passing p t) is) ∙ append_assoc xs (passing p (named_last (step_of s) (steps_of ss))) (named_where p (steps_of ss))
-    ∙ ap (λ zs. xs ++ named_where p (steps_of zs)) (sym cut) ∙ h
+pub named_next : (p : ℕ → ℕ → Bool) (s : Step) (rest left : List Step) (o : Option (ℕ × ℕ)) (xs ys whole : List (ℕ × ℕ)) → left ≡ s ∷ rest → xs ++ named_where p left ≡ whole
+    → o ≡ named_last s rest → ys ≡ xs ++ passing p o → ys ++ named_where p rest ≡ whole
+named_next p s rest left o xs ys whole cut h is e =
+    ap (λ zs. zs ++ named_where p rest) (e ∙ ap (λ t. xs ++ passing p t) is) ∙ append_assoc xs (passing p (named_last s rest)) (named_where p rest)
+    ∙ ap (λ zs. xs ++ named_where p zs) (sym cut) ∙ h
+
+-- none is left
+pub none_behind : (p : ℕ → ℕ → Bool) (c : List Step) (i : ℕ) (xs whole : List (ℕ × ℕ)) → length c ≤ i → xs ++ named_where p (drop_first i c) ≡ whole → xs ≡ whole
+none_behind p c i xs whole past h = sym (append-nil xs) ∙ ap (λ k. xs ++ named_where p k) (sym (drop_all i c past)) ∙ h
+
+-- ---- the steps that name an end
+
+unnamed_from : (c : List Step) (u v : ℕ) → is_named c u ≡ false → list_any (names_pair u v) c ≡ false
+unnamed_from [] u v h = refl
+unnamed_from (s ∷ ss) u v h =
+    let both = or_parts (names u s) (is_named ss u) h in
+    ap (λ b. b || list_any (names_pair u v) ss) (one s both.0) ∙ unnamed_from ss u v both.1
+  where
+    one : (s : Step) → names u s ≡ false → names_pair u v s ≡ false
+    one (node t) h = refl
+    one (link a b) h = ap (λ x. x && nat_eq v b) (or_parts (nat_eq u a) (nat_eq u b) h).0
+    one (unlink a b) h = ap (λ x. x && nat_eq v b) (or_parts (nat_eq u a) (nat_eq u b) h).0
+    one (drop w) h = refl
+    one (relabel w t) h = refl
+
+unnamed_onto : (c : List Step) (u v : ℕ) → is_named c v ≡ false → list_any (names_pair u v) c ≡ false
+unnamed_onto [] u v h = refl
+unnamed_onto (s ∷ ss) u v h =
+    let both = or_parts (names v s) (is_named ss v) h in
+    ap (λ b. b || list_any (names_pair u v) ss) (one s both.0) ∙ unnamed_onto ss u v both.1
+  where
+    one : (s : Step) → names v s ≡ false → names_pair u v s ≡ false
+    one (node t) h = refl
+    one (link a b) h = ap (λ x. nat_eq u a && x) (or_parts (nat_eq v a) (nat_eq v b) h).1 ∙ and-false (nat_eq u a)
+    one (unlink a b) h = ap (λ x. nat_eq u a && x) (or_parts (nat_eq v a) (nat_eq v b) h).1 ∙ and-false (nat_eq u a)
+    one (drop w) h = refl
+    one (relabel w t) h = refl
+
+-- a test that fails in front and behind
+pub within : (p : Step → Bool) (before part behind c : List Step) → c ≡ before ++ (part ++ behind) → list_any p before ≡ false → list_any p behind ≡ false → list_any p part ≡ list_any p c
+within p before part behind c whole front back = sym (
+    ap (list_any p) whole ∙ list_any-append p before (part ++ behind) ∙ ap (λ b. b || list_any p (part ++ behind)) front
+    ∙ list_any-append p part behind ∙ ap (λ b. list_any p part || b) back ∙ or-false (list_any p part))
+
+pub named_of_from : (c part : List Step) (u v : ℕ) → AreNaming u c part → list_any (names_pair u v) part ≡ list_any (names_pair u v) c
+named_of_from c part u v a = within (names_pair u v) a.before part a.behind c a.whole (unnamed_from a.before u v a.unnamed) (unnamed_from a.behind u v a.over)
+
+pub named_of_onto : (c part : List Step) (u v : ℕ) → AreNaming v c part → list_any (names_pair u v) part ≡ list_any (names_pair u v) c
+named_of_onto c part u v a = within (names_pair u v) a.before part a.behind c a.whole (unnamed_onto a.before u v a.unnamed) (unnamed_onto a.behind u v a.over)

@@ -1,11 +1,11 @@
 -- The nodes that get another label by a list of steps, each once.
-use Rattle.std.proofs.Common.{◌≡◌, ◌≢◌, ℕ, zero, suc, Bool, true, false, List, [], ◌∷◌, ◌++◌, Option, Some, None, is_some, refl, sym, ap, ◌∙◌, subst, arith, inl, inr, true≢false, cond}
+use Rattle.std.proofs.Common.{◌≡◌, ◌≢◌, ◌≤◌, ℕ, zero, suc, Bool, true, false, List, [], ◌∷◌, ◌++◌, length, drop as drop_first, Option, Some, None, is_some, refl, sym, ap, ◌∙◌, subst, arith, inl, inr, true≢false, cond}
 use Rattle.std.specs.Prelude.{nat_eq, ◌&&◌, ◌||◌, not, slice_get, bytes_eq}
 use Rattle.std.specs.List.{list_any, IsDistinct}
 use Rattle.std.proofs.Math.Bool.{or-false, and-false, and-true}
 use Rattle.std.proofs.lemmas.Bool.{cases_Bool, and_parts, or_parts}
 use Rattle.std.proofs.lemmas.Bool.Decides.{eqb_tells, Decides-eqb}
-use Rattle.std.proofs.lemmas.List.{append_assoc}
+use Rattle.std.proofs.lemmas.List.{append_assoc, append-nil, drop_all}
 use Rattle.std.proofs.lemmas.List.Folds.{list_any-append}
 use Rattle.std.proofs.lemmas.Map.Keys.{IsDistinct-cons}
 use Rattle.std.proofs.lemmas.Slice.Eq.{bytes_eq-Decides}
@@ -18,10 +18,13 @@ use Rattle.change_spec.specs.Places.{CanMakeAll}
 use Rattle.change_spec.proofs.StepGraphs.{label_other, label_gone}
 use Rattle.change_spec.proofs.StepPlaces.{label_added, live_given, given_made, gone_stays}
 use Rattle.graph_steps.specs.declared.changes.Step.{Step as Asked}
+use Rattle.change_spec.specs.Named.{names, is_named}
 use Rattle.graph_steps.specs.StepLists.{step_of, steps_of}
+use Rattle.graph_steps.specs.NamedSteps.{AreNaming}
 use Rattle.graph_effects.specs.Effects.{is_same_label, is_relabelled}
 use Rattle.graph_effects.specs.StepEffects.{node_if, relabels, relabelled_last, relabelled_where}
 use Rattle.graph_effects.proofs.GoneNodes.{if_has, none_in, no_numbers}
+use Rattle.graph_effects.proofs.NamedPairs.{within}
 
 pub relabels_map : (ss : List Asked) (n : ℕ) → list_any (λ s. relabels n (step_of s)) ss ≡ list_any (relabels n) (steps_of ss)
 relabels_map [] n = refl
@@ -135,11 +138,32 @@ label_after (s ∷ ss) g n can live live2 off =
 
 -- ---- the nodes, each once
 
-pub relabelled_next : (p : ℕ → Bool) (s : Asked) (rest left : List Asked) (xs ys whole : List ℕ) → left ≡ s ∷ rest → xs ++ relabelled_where p (steps_of left) ≡ whole
-    → ys ≡ xs ++ relabelled_last p (step_of s) (steps_of rest) → ys ++ relabelled_where p (steps_of rest) ≡ whole
+pub relabelled_next : (p : ℕ → Bool) (s : Step) (rest left : List Step) (xs ys whole : List ℕ) → left ≡ s ∷ rest → xs ++ relabelled_where p left ≡ whole
+    → ys ≡ xs ++ relabelled_last p s rest → ys ++ relabelled_where p rest ≡ whole
 relabelled_next p s rest left xs ys whole cut h k =
-    ap (λ zs. zs ++ relabelled_where p (steps_of rest)) k ∙ append_assoc xs (relabelled_last p (step_of s) (steps_of rest)) (relabelled_where p (steps_of rest))
-    ∙ ap (λ ss. xs ++ relabelled_where p (steps_of ss)) (sym cut) ∙ h
+    ap (λ zs. zs ++ relabelled_where p rest) k ∙ append_assoc xs (relabelled_last p s rest) (relabelled_where p rest)
+    ∙ ap (λ ss. xs ++ relabelled_where p ss) (sym cut) ∙ h
+
+-- none is left
+pub none_behind : (p : ℕ → Bool) (c : List Step) (i : ℕ) (xs whole : List ℕ) → length c ≤ i → xs ++ relabelled_where p (drop_first i c) ≡ whole → xs ≡ whole
+none_behind p c i xs whole past h = sym (append-nil xs) ∙ ap (λ k. xs ++ relabelled_where p k) (sym (drop_all i c past)) ∙ h
+
+-- a step that gives a node a label names it
+unnamed_none : (c : List Step) (n : ℕ) → is_named c n ≡ false → list_any (relabels n) c ≡ false
+unnamed_none [] n h = refl
+unnamed_none (s ∷ ss) n h =
+    let both = or_parts (names n s) (is_named ss n) h in
+    ap (λ b. b || list_any (relabels n) ss) (one s both.0) ∙ unnamed_none ss n both.1
+  where
+    one : (s : Step) → names n s ≡ false → relabels n s ≡ false
+    one (node t) h = refl
+    one (link a b) h = refl
+    one (unlink a b) h = refl
+    one (drop w) h = refl
+    one (relabel w t) h = h
+
+pub part_relabels : (c part : List Step) (n : ℕ) → AreNaming n c part → list_any (relabels n) part ≡ list_any (relabels n) c
+part_relabels c part n a = within (relabels n) a.before part a.behind c a.whole (unnamed_none a.before n a.unnamed) (unnamed_none a.behind n a.over)
 
 where_has : (p : ℕ → Bool) (c : List Step) (n : ℕ) → has (relabelled_where p c) n ≡ (p n && list_any (relabels n) c)
 where_has p [] n = sym (and-false (p n))

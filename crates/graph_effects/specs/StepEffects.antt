@@ -4,7 +4,11 @@ use Rattle.std.specs.List.{list_any}
 use Rattle.graph_spec.specs.Graphs.{Graph, is_live, has_edge}
 use Rattle.graph_spec.specs.Members.{has}
 use Rattle.change_spec.specs.Steps.{Step, node, link, unlink, drop, relabel}
-use Rattle.graph_effects.specs.Effects.{is_new_edge}
+use Rattle.bisim_spec.specs.declared.sides.Side.{Side}
+use Rattle.bisim_spec.specs.declared.sides.Side.TheVariants.{Parents, Children}
+use Rattle.bisim_spec.specs.declared.sides.Sides.{Sides}
+use Rattle.bisim_spec.specs.declared.sides.Sides.TheVariants as sides
+use Rattle.graph_effects.specs.Effects.{EffectLists, is_new_edge}
 
 -- ---- nodes
 
@@ -108,7 +112,18 @@ is_lost_with g g2 gone u v = is_new_edge g2 g u v && ((is_live g2 u && is_live g
 
 -- ---- targets
 
--- the ends of these edges that are nodes of the graph
-abbrev pub live_ends : Graph → List (ℕ × ℕ) → List ℕ
-live_ends g2 [] = []
-live_ends g2 (e ∷ es) = node_if (is_live g2 e.1) e.1 ++ live_ends g2 es
+-- the end of an edge whose other end is its neighbour on this side
+abbrev pub end_with : Side → ℕ × ℕ → ℕ
+end_with Parents e = e.1
+end_with Children e = e.0
+
+-- those of these edges that are nodes of the graph
+abbrev pub live_ends : Side → Graph → List (ℕ × ℕ) → List ℕ
+live_ends d g2 [] = []
+live_ends d g2 (e ∷ es) = node_if (is_live g2 (end_with d e)) (end_with d e) ++ live_ends d g2 es
+
+-- the nodes at which effects alter what counts at a node: with parents alone the targets, with children too both ends
+-- of each edge that comes or goes
+abbrev pub ends_of : Sides → Graph → EffectLists → List ℕ
+ends_of sides.Parents g2 e = e.targets
+ends_of sides.Both g2 e = (e.targets ++ live_ends Children g2 e.lost) ++ live_ends Children g2 e.added

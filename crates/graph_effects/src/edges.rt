@@ -1,7 +1,7 @@
 // The edges that come and go with a change.
-ghost use Rattle.std.specs.Prelude.{◌≡◌, ◌≤◌, ◌+◌, ◌*◌, ◌++◌, ◌&&◌, ◌||◌, not, ℕ, Bool, true, false, nat_eq, OnOk, length};
+ghost use Rattle.std.specs.Prelude.{◌≡◌, ◌≤◌, ◌+◌, ◌*◌, ◌++◌, ◌&&◌, ◌||◌, not, ℕ, Bool, true, false, nat_eq, OnOk, length, drop};
 ghost use Rattle.std.specs.List.{list_any};
-ghost use Rattle.graph_spec.specs.Graphs.{is_live, has_edge as edge_in};
+ghost use Rattle.graph_spec.specs.Graphs.{is_live};
 ghost use Rattle.graph_spec.specs.Members.{Lists};
 ghost use Rattle.graph_spec.specs.Shapes.{shape_of};
 ghost use Rattle.bisim_spec.specs.NodeEdges.{edges_from};
@@ -13,7 +13,7 @@ ghost use Rattle.graph_effects.specs.Effects.{ListsPairs, is_new_node, is_new_ed
 ghost use Rattle.graph_effects.specs.StepEffects.{pair_if, names_pair as naming, unless_named as pair_unless, named_last as pair_last};
 ghost use Rattle.graph_effects.specs.StepEffects.{passing, named_where, is_cut, edges_from_live, goes_with};
 
-use graph_steps::{Step, has_edge};
+use graph_steps::{Change, Step};
 use graph_update::After;
 use label_graph::Graph;
 use px_base::{Memory, NodeId, Steps};
@@ -53,24 +53,39 @@ fn is_named(steps: &[Step], p: NodeId, n: NodeId) -> bool
     any_names(steps, p, n)
 }
 
-// The pair, unless one of the steps names it.
-fn unless_named(rest: &[Step], u: NodeId, v: NodeId) -> Option<(NodeId, NodeId)>
-    ensures { result ≡ pair_unless (steps_of rest.now) u v }
+// Whether a step from a place on does so. It names both ends.
+fn is_named_from(change: &Change, from: usize, u: NodeId, v: NodeId) -> bool
+    requires { from ≤ length change.now }
+    ensures { result ≡ list_any (naming u v) (drop from change.now) }
 {
-    if is_named(rest, u, v) {
+    let whole = change.whole();
+    let (begin, end) = (whole.naming(from, u), whole.naming(from, v));
+    if begin.len() <= end.len() {
+        return is_named(begin, u, v);
+    }
+    is_named(end, u, v)
+}
+
+// The pair, unless a step from a place on names it.
+fn unless_named(change: &Change, from: usize, u: NodeId, v: NodeId) -> Option<(NodeId, NodeId)>
+    requires { from ≤ length change.now }
+    ensures { result ≡ pair_unless (drop from change.now) u v }
+{
+    if is_named_from(change, from, u, v) {
         None
     } else {
         Some((u, v))
     }
 }
 
-// The pair that the step names, unless a later one does.
-fn named_last(step: &Step, rest: &[Step]) -> Option<(NodeId, NodeId)>
-    ensures { result ≡ pair_last (step_of step.now) (steps_of rest.now) }
+// The pair that the step names, unless one from the next place on does.
+fn named_last(step: &Step, change: &Change, next: usize) -> Option<(NodeId, NodeId)>
+    requires { next ≤ length change.now }
+    ensures { result ≡ pair_last (step_of step.now) (drop next change.now) }
 {
     match step {
-        Step::Link(u, v) => unless_named(rest, *u, *v),
-        Step::Unlink(u, v) => unless_named(rest, *u, *v),
+        Step::Link(u, v) => unless_named(change, next, *u, *v),
+        Step::Unlink(u, v) => unless_named(change, next, *u, *v),
         _ => None,
     }
 }
@@ -108,7 +123,6 @@ fn comes(was: bool, is: bool) -> bool
 // The pair is noted among the edges that go or those that come.
 fn sort_pair<L: Ledger>(
     graph: &Graph,
-    all: &[Step],
     after: &After<'_>,
     pair: (NodeId, NodeId),
     lost: &mut Vec<(NodeId, NodeId)>,
@@ -116,14 +130,13 @@ fn sort_pair<L: Ledger>(
     steps: &mut Steps<L>,
 ) -> Result<(), Memory>
     requires graph { after.now.before ≡ graph.now.graph }
-    requires same { after.now.change ≡ steps_of all.now }
     ensures lost { OnOk result (lost.new.items ≡ lost.old.items ++ pair_if (is_cut after.now.before (graph_after after.now) pair.0 pair.1) pair) }
     ensures added { OnOk result (added.new.items ≡ added.old.items ++ pair_if (is_new_edge after.now.before (graph_after after.now) pair.0 pair.1) pair) }
     ensures cost { steps.new ≡ steps.old + 1 }
 {
     let (u, v) = pair;
     let was = graph.has_edge(u, v, steps);
-    let is = has_edge(graph, all, u, v);
+    let is = after.edge_after(u, v, was);
     note_if(lost, u, v, is_cut(was, is, u, v, after))?;
     note_if(added, u, v, comes(was, is))
 }
@@ -131,7 +144,6 @@ fn sort_pair<L: Ledger>(
 // So is the pair that a step names last.
 fn sort_step<L: Ledger>(
     graph: &Graph,
-    all: &[Step],
     after: &After<'_>,
     named: Option<(NodeId, NodeId)>,
     lost: &mut Vec<(NodeId, NodeId)>,
@@ -139,40 +151,37 @@ fn sort_step<L: Ledger>(
     steps: &mut Steps<L>,
 ) -> Result<(), Memory>
     requires graph { after.now.before ≡ graph.now.graph }
-    requires same { after.now.change ≡ steps_of all.now }
     ensures lost { OnOk result (lost.new.items ≡ lost.old.items ++ passing (is_cut after.now.before (graph_after after.now)) named) }
     ensures added { OnOk result (added.new.items ≡ added.old.items ++ passing (is_new_edge after.now.before (graph_after after.now)) named) }
     ensures cost { steps.new ≤ steps.old + 1 }
 {
     match named {
-        Some(pair) => sort_pair(graph, all, after, pair, lost, added, steps),
+        Some(pair) => sort_pair(graph, after, pair, lost, added, steps),
         None => Ok(()),
     }
 }
 
 /// The edges between nodes that stay which go, and all edges that come: the steps name them. Each pair that they name is
-/// looked up once in the graph, and once in the steps.
+/// looked up once in the graph, and once among the steps from the first to the last that names an end.
 pub(crate) fn sort_named<L: Ledger>(
     graph: &Graph,
-    all: &[Step],
+    change: &Change,
     after: &After<'_>,
     lost: &mut Vec<(NodeId, NodeId)>,
     added: &mut Vec<(NodeId, NodeId)>,
     steps: &mut Steps<L>,
 ) -> Result<(), Memory>
     requires graph { after.now.before ≡ graph.now.graph }
-    requires same { after.now.change ≡ steps_of all.now }
     ensures lost { OnOk result (lost.new.items ≡ lost.old.items
-        ++ named_where (is_cut after.now.before (graph_after after.now)) (steps_of all.now)) }
+        ++ named_where (is_cut after.now.before (graph_after after.now)) change.now) }
     ensures added { OnOk result (added.new.items ≡ added.old.items
-        ++ named_where (is_new_edge after.now.before (graph_after after.now)) (steps_of all.now)) }
-    ensures cost { steps.new ≤ steps.old + length all.now }
+        ++ named_where (is_new_edge after.now.before (graph_after after.now)) change.now) }
+    ensures cost { steps.new ≤ steps.old + length change.now }
 {
-    let mut left = all;
-    while let Some((step, rest)) = left.split_first() {
-        left = rest;
-        let named = named_last(step, rest);
-        sort_step(graph, all, after, named, lost, added, steps)?;
+    let all = change.steps();
+    for i in 0..all.len() {
+        let named = named_last(&all[i], change, i + 1);
+        sort_step(graph, after, named, lost, added, steps)?;
     }
     Ok(())
 }

@@ -1,7 +1,13 @@
 // What a change makes of a graph in the end.
-ghost use Rattle.std.specs.Prelude.{◌≡◌};
+ghost use Rattle.std.specs.Prelude.{◌≡◌, IfOk};
+ghost use Rattle.graph_update.specs.PendingChanges.{graph_after};
+ghost use Rattle.graph_effects.specs.StepEffects.{ends_of};
 
-use px_base::NodeId;
+use crate::nodes::note_ends;
+use bisim_spec::{Side, Sides};
+use graph_update::After;
+use px_base::{Memory, NodeId};
+use std::alloc::Global;
 use std::marker::Model;
 
 /// What a change makes of a graph in the end, whatever its steps: the nodes and the edges that come and go, and the nodes
@@ -75,5 +81,27 @@ impl Effects {
         ensures { result.now ≡ self.now.targets }
     {
         &self.targets
+    }
+
+    /// The nodes of the graph after the change at which what counts is altered: with parents alone the targets, with
+    /// children too those at which an edge that comes or goes begins. A node may stand more than once among them. O(t) for
+    /// t of them; it takes 4 bytes for each.
+    pub fn ends(
+        &self,
+        alloc: Global,
+        sides: Sides,
+        after: &After<'_>,
+    ) -> Result<Vec<NodeId>, Memory>
+        ensures { IfOk result (λ ends. ends.items ≡ ends_of sides (graph_after after.now) self.now) }
+    {
+        let mut ends = self.targets.to_vec(alloc)?;
+        match sides {
+            Sides::Parents => Ok(ends),
+            Sides::Both => {
+                note_ends(&mut ends, Side::Children, &self.lost, after)?;
+                note_ends(&mut ends, Side::Children, &self.added, after)?;
+                Ok(ends)
+            }
+        }
     }
 }

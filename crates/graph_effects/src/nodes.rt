@@ -2,12 +2,14 @@
 ghost use Rattle.std.specs.Prelude.{◌≡◌, ◌≤◌, ◌++◌, IfOk, OnOk, length};
 ghost use Rattle.graph_spec.specs.Graphs.{IsGraph};
 ghost use Rattle.graph_spec.specs.Members.{Lists};
+ghost use Rattle.bisim_spec.specs.declared.sides.Side.TheVariants.{Parents};
 ghost use Rattle.change_spec.specs.Places.{CanMakeAll};
 ghost use Rattle.graph_steps.specs.StepLists.{step_of, steps_of};
 ghost use Rattle.graph_update.specs.PendingChanges.{graph_after};
 ghost use Rattle.graph_effects.specs.Effects.{is_new_node};
-ghost use Rattle.graph_effects.specs.StepEffects.{node_if, comes_below, gone_by, gone_with, live_ends};
+ghost use Rattle.graph_effects.specs.StepEffects.{node_if, comes_below, gone_by, gone_with, end_with, live_ends};
 
+use bisim_spec::Side;
 use graph_steps::Step;
 use graph_update::After;
 use label_graph::Graph;
@@ -89,18 +91,30 @@ pub(crate) fn gone_nodes(
     Ok(nodes)
 }
 
-// The ends of edges that are nodes after the change.
-fn note_ends(
+// The end of an edge whose other end is its neighbour on this side.
+fn end_with(side: Side, edge: (NodeId, NodeId)) -> NodeId
+    ensures { result ≡ end_with side edge }
+{
+    match side {
+        Side::Parents => edge.1,
+        Side::Children => edge.0,
+    }
+}
+
+/// Those of the edges that are nodes after the change.
+pub(crate) fn note_ends(
     nodes: &mut Vec<NodeId>,
+    side: Side,
     edges: &[(NodeId, NodeId)],
     after: &After<'_>,
 ) -> Result<(), Memory>
-    ensures { OnOk result (nodes.new.items ≡ nodes.old.items ++ live_ends (graph_after after.now) edges.now) }
+    ensures { OnOk result (nodes.new.items ≡ nodes.old.items ++ live_ends side (graph_after after.now) edges.now) }
 {
     let mut left = edges;
     while let Some((edge, rest)) = left.split_first() {
         left = rest;
-        note_if(nodes, edge.1, after.is_live(edge.1))?;
+        let end = end_with(side, *edge);
+        note_if(nodes, end, after.is_live(end))?;
     }
     Ok(())
 }
@@ -115,11 +129,11 @@ pub(crate) fn target_nodes(
     after: &After<'_>,
 ) -> Result<Vec<NodeId>, Memory>
     ensures { IfOk result (λ nodes. nodes.items
-        ≡ ((came.now ++ relabelled.now) ++ live_ends (graph_after after.now) lost.now) ++ live_ends (graph_after after.now) added.now) }
+        ≡ ((came.now ++ relabelled.now) ++ live_ends Parents (graph_after after.now) lost.now) ++ live_ends Parents (graph_after after.now) added.now) }
 {
     let mut nodes = came.to_vec(alloc)?;
     nodes.extend_from_slice(relabelled)?;
-    note_ends(&mut nodes, lost, after)?;
-    note_ends(&mut nodes, added, after)?;
+    note_ends(&mut nodes, Side::Parents, lost, after)?;
+    note_ends(&mut nodes, Side::Parents, added, after)?;
     Ok(nodes)
 }

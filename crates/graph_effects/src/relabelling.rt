@@ -1,5 +1,5 @@
 // The nodes that get another label with a change.
-ghost use Rattle.std.specs.Prelude.{◌≡◌, ◌++◌, ◌&&◌, not, IfOk, IsTrue, OnOk};
+ghost use Rattle.std.specs.Prelude.{◌≡◌, ◌≤◌, ◌++◌, ◌&&◌, not, IfOk, IsTrue, OnOk, length, drop};
 ghost use Rattle.std.specs.List.{list_any};
 ghost use Rattle.graph_spec.specs.Graphs.{is_live};
 ghost use Rattle.graph_spec.specs.Members.{Lists};
@@ -9,7 +9,7 @@ ghost use Rattle.graph_effects.specs.Effects.{is_relabelled};
 ghost use Rattle.graph_effects.specs.StepEffects.{relabels, relabelled_last, relabelled_where};
 
 use crate::nodes::note_if;
-use graph_steps::Step;
+use graph_steps::{Change, Step};
 use graph_update::After;
 use label_graph::Graph;
 use px_base::{Memory, NodeId};
@@ -37,6 +37,14 @@ fn is_given_label(steps: &[Step], n: NodeId) -> bool
     ensures { result ≡ list_any (relabels n) (steps_of steps.now) }
 {
     any_relabels(steps, n)
+}
+
+// Whether a step from a place on does so. It names the node.
+fn is_given_from(change: &Change, from: usize, n: NodeId) -> bool
+    requires { from ≤ length change.now }
+    ensures { result ≡ list_any (relabels n) (drop from change.now) }
+{
+    is_given_label(change.whole().naming(from, n), n)
 }
 
 // Whether a node of both graphs has another label in the second.
@@ -71,21 +79,23 @@ fn is_last(other: bool, again: bool) -> bool
     other && !again
 }
 
-// Notes the node to which the step gives another label, unless a later step gives it one.
+// Notes the node to which the step gives another label, unless one from the next place on gives it one.
 fn note_last(
     nodes: &mut Vec<NodeId>,
     graph: &Graph,
     after: &After<'_>,
     step: &Step,
-    rest: &[Step],
+    change: &Change,
+    next: usize,
 ) -> Result<(), Memory>
     requires graph { after.now.before ≡ graph.now.graph }
+    requires next { next ≤ length change.now }
     ensures { OnOk result (nodes.new.items ≡ nodes.old.items
-        ++ relabelled_last (is_relabelled after.now.before (graph_after after.now)) (step_of step.now) (steps_of rest.now)) }
+        ++ relabelled_last (is_relabelled after.now.before (graph_after after.now)) (step_of step.now) (drop next change.now)) }
 {
     match step {
         Step::Relabel(u, _) => {
-            let wanted = is_last(is_other(graph, after, *u), is_given_label(rest, *u));
+            let wanted = is_last(is_other(graph, after, *u), is_given_from(change, next, *u));
             note_if(nodes, *u, wanted)
         }
         _ => Ok(()),
@@ -97,16 +107,15 @@ fn note_all(
     nodes: &mut Vec<NodeId>,
     graph: &Graph,
     after: &After<'_>,
-    all: &[Step],
+    change: &Change,
 ) -> Result<(), Memory>
     requires graph { after.now.before ≡ graph.now.graph }
     ensures { OnOk result (nodes.new.items ≡ nodes.old.items
-        ++ relabelled_where (is_relabelled after.now.before (graph_after after.now)) (steps_of all.now)) }
+        ++ relabelled_where (is_relabelled after.now.before (graph_after after.now)) change.now) }
 {
-    let mut left = all;
-    while let Some((step, rest)) = left.split_first() {
-        left = rest;
-        note_last(nodes, graph, after, step, rest)?;
+    let all = change.steps();
+    for i in 0..all.len() {
+        note_last(nodes, graph, after, &all[i], change, i + 1)?;
     }
     Ok(())
 }
@@ -115,16 +124,16 @@ fn note_all(
 pub(crate) fn relabelled_nodes(
     alloc: Global,
     graph: &Graph,
-    steps: &[Step],
+    change: &Change,
     after: &After<'_>,
 ) -> Result<Vec<NodeId>, Memory>
     requires graph { after.now.before ≡ graph.now.graph }
-    requires same { after.now.change ≡ steps_of steps.now }
+    requires same { after.now.change ≡ change.now }
     ensures { IfOk result (λ nodes. Lists (is_relabelled after.now.before (graph_after after.now)) nodes.items) }
 {
     // Called for its contract: the steps can be made.
     let _known = after.created();
     let mut nodes = Vec::new(alloc);
-    note_all(&mut nodes, graph, after, steps)?;
+    note_all(&mut nodes, graph, after, change)?;
     Ok(nodes)
 }

@@ -9,3 +9,4 @@ pub mod LoadedTriples
 pub mod LoadedTexts
 pub mod OneOutcome
 mod Examples
+mod EditedLoads

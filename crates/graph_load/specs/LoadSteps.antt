@@ -19,7 +19,7 @@ use Rattle.graph_load.specs.declared.batch.Waiting.{Waiting}
 use Rattle.graph_load.specs.declared.loader.Loader.{Loader}
 use Rattle.graph_load.specs.TripleGraphs.{LoadState, with_triple}
 use Rattle.graph_load.specs.Hashed.{triple_of, hashed}
-use Rattle.graph_load.specs.Loads.{OutcomeOf, Outcome, Ending, loaded, syntax, limit, Place, LoadsFrom, Loads, LoadsNamed, RepresentsText, at_start}
+use Rattle.graph_load.specs.Loads.{OutcomeOf, Outcome, Ending, loaded, syntax, limit, Place, LoadsFrom, Loads, LoadsNamed, RepresentsText, StaysAsLoaded, at_start}
 use Rattle.graph_load.specs.Loaders.{load_state, Holds, IsSoundLoader, IsUntaken}
 
 -- The name is that of an observable file whose text loads to this; of opaque files it says nothing.
@@ -36,6 +36,12 @@ NamesObservable limits (Some files) name g n = (text : List ℕ) × (content_of 
 abbrev pub RepresentsFile : Option (List File) → List ℕ → Graph → Names → Type 0
 RepresentsFile None name g n = ⊤
 RepresentsFile (Some files) name g n = (text : List ℕ) × (content_of files name ≡ Some text) × RepresentsText text g n
+
+-- The name is that of an observable file, and accepted inserts and deletes leave a graph that is, up to the numbers of nodes, the
+-- loaded graph of the triples that are present then.
+abbrev pub StaysAsFile : Option (List File) → List ℕ → Graph → Names → Type 0
+StaysAsFile None name g n = ⊤
+StaysAsFile (Some files) name g n = (text : List ℕ) × (content_of files name ≡ Some text) × StaysAsLoaded text g n
 
 -- observable files lack the name
 abbrev pub LacksFile : Option (List File) → List ℕ → Type 0

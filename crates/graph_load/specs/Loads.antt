@@ -5,10 +5,13 @@ use Rattle.graph_spec.specs.declared.limits.Limits.{Limits}
 use Rattle.graph_spec.specs.declared.refusal.Refusal.{Refusal}
 use Rattle.graph_spec.specs.Lines.{Line, cut}
 use Rattle.graph_spec.specs.Graphs.{Graph}
+use Rattle.graph_spec.specs.Shapes.{shape_of}
 use Rattle.triples_read.specs.declared.term.Triple.{Triple}
 use Rattle.triples_read.specs.Lines.{Spells, Empty}
 use Rattle.triple_names.specs.Names.{Names, AreSameNames}
 use Rattle.triple_names.specs.Represented.{Represents, is_among}
+use Rattle.triple_names.specs.Histories.{Edit, EditsAll, edited_all}
+use Rattle.triple_names.specs.Isomorphic.{IsIsomorphism, Paired}
 use Rattle.graph_load.specs.TripleGraphs.{LoadState, nothing_loaded, names_of, with_triple}
 
 -- what a load comes to, where this is what it leaves of a whole file
@@ -87,3 +90,13 @@ SpelledIn (l ∷ ls) t = Spells l.text t ⊎ SpelledIn ls t
 -- The graph with the names represents the triples that the lines of the text spell.
 abbrev pub RepresentsText : List ℕ → Graph → Names → Type 0
 RepresentsText text g n = (s : List Triple) × Represents g n s × ((t : Triple) → IsTrue (is_among s t) ↔ SpelledIn (cut text) t)
+
+-- Up to the numbers of nodes the graph, which represents the triples by the names, is that to which any text of these triples loads.
+abbrev pub IsAsLoaded : Graph → Names → List Triple → Type 0
+IsAsLoaded g n s = (limits : Limits) (text : List ℕ) (h : Graph) (k : Names) → LoadsNamed limits text h k
+    → ((t : Triple) → IsTrue (is_among s t) ↔ SpelledIn (cut text) t) → IsIsomorphism (shape_of g) (shape_of h) (Paired n k s)
+
+-- The text has triples, and accepted inserts and deletes leave a graph that is as loaded from those that are present then.
+abbrev pub StaysAsLoaded : List ℕ → Graph → Names → Type 0
+StaysAsLoaded text g n = (s : List Triple) × ((t : Triple) → IsTrue (is_among s t) ↔ SpelledIn (cut text) t)
+    × ((limits : Limits) (es : List Edit) (h : Graph) (k : Names) → EditsAll limits es g n h k → IsAsLoaded h k (edited_all es s))

@@ -5,7 +5,7 @@ ghost use Rattle.label_graph.specs.ReservedGraphs.{none_reserved};
 ghost use Rattle.graph_load.specs.TripleGraphs.{nothing_loaded};
 ghost use Rattle.graph_load.specs.Loads.{Outcome, Loads, loaded, at_start};
 ghost use Rattle.graph_load.specs.Loaders.{Holds, IsSoundLoader, load_state};
-ghost use Rattle.graph_load.specs.LoadSteps.{LoadsObservable, NamesObservable, LoadsWholeFile, RepresentsFile, LacksFile, TellsOutcome, LoadsAhead, LoadsTables, LoadsWhole, LoadsRest, CanRead};
+ghost use Rattle.graph_load.specs.LoadSteps.{LoadsObservable, NamesObservable, LoadsWholeFile, RepresentsFile, StaysAsFile, LacksFile, TellsOutcome, LoadsAhead, LoadsTables, LoadsWhole, LoadsRest, CanRead};
 ghost use Rattle.graph_load.specs.declared.files.LoadError.TheVariants.{Memory as NoMemory};
 
 use crate::batch::{Next, Waiting, give_back, read_batch};
@@ -217,6 +217,8 @@ pub fn load_named<H: Shelf>(
     ensures named { IfOk result (λ r. NamesObservable limits.now (H.files shelf.old) name.now r.0.graph r.1.names) }
     // With the numbers it represents the triples of the text.
     ensures represented { IfOk result (λ r. RepresentsFile (H.files shelf.old) name.now r.0.graph r.1.names) }
+    // Accepted inserts and deletes leave the graph that the triples then present would load to, up to the numbers of nodes.
+    ensures edits { IfOk result (λ r. StaysAsFile (H.files shelf.old) name.now r.0.graph r.1.names) }
     // The number of a line comes only where the text of the file is refused there, for that reason.
     ensures refused { IfErr result (TellsOutcome (LoadsObservable limits.now (H.files shelf.old) name.now)) }
     // A text loads to one outcome at most.

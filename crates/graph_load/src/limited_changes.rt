@@ -6,7 +6,7 @@ ghost use Rattle.label_graph.specs.ReservedGraphs.{none_reserved};
 ghost use Rattle.graph_load.specs.Refused.{IsRefused};
 ghost use Rattle.graph_load.specs.declared.limited_changes.Stop.TheVariants.{Memory as NoMemory};
 
-use graph_steps::has_edge;
+use graph_steps::edge_before;
 use graph_update::{Change, Verdict, commit, judge, stage};
 use label_graph::Graph;
 use px_base::{Limits, Memory, NodeId};
@@ -92,7 +92,7 @@ fn link_live(graph: &mut Graph, from: NodeId, to: NodeId, limits: &Limits) -> Re
     ensures reserved { OnOk result (graph.new.reserved ≡ none_reserved) }
     ensures limit { IsErrOf result Stop.Limit → IsRefused (apply (link from to ∷ []) graph.old.graph limits.now) }
 {
-    if has_edge(graph, &[], from, to) {
+    if edge_before(graph, from, to) {
         return Ok(());
     }
     if graph.edge_count() >= limits.edges {

@@ -46,3 +46,9 @@ pub some_at : (ss : List Asked) (i : ℕ) → i < length ss → (s : Asked) × (
 some_at [] i h = absurd (omega (arith, h))
 some_at (x ∷ xs) zero h = (x, refl, refl)
 some_at (x ∷ xs) (suc i) h = some_at xs i (omega (arith, h))
+
+pub the_one_at : (ss : List Asked) (i : ℕ) (x s : Asked) → x ≡ get_or ss i x → slice_get ss i ≡ Some s → x ≡ s
+the_one_at [] zero x s e at = cc
+the_one_at [] (suc i) x s e at = cc
+the_one_at (y ∷ ys) zero x s e at = (let same : y ≡ s = cc in e ∙ same)
+the_one_at (y ∷ ys) (suc i) x s e at = the_one_at ys i x s e at

@@ -1,9 +1,12 @@
 pub mod FrontSteps
 pub mod StepSpans
+pub mod NamedParts
+pub mod NodePlaces
+pub mod GivenLabels
 pub mod GrownCounts
 pub mod Listed
 pub mod NodeEdges
 pub mod IdleSteps
-pub mod Verdicts
 pub mod Mapped
+pub mod Verdicts
 pub mod Judged

@@ -1,5 +1,5 @@
 -- The edges at a node that steps leave there, one step more at a time.
-use Rattle.std.proofs.Common.{◌≡◌, ◌≢◌, ℕ, zero, suc, ◌+◌, ◌-◌, ◌<◌, ◌≤◌, Bool, true, false, cond, List, [], ◌∷◌, length, IsTrue, refl, sym, ap, ◌∙◌, subst, arith, inl, inr, nat_eq, take, get_or, true≢false}
+use Rattle.std.proofs.Common.{◌≡◌, ◌≢◌, ℕ, zero, suc, ◌+◌, ◌-◌, ◌<◌, ◌≤◌, Bool, true, false, cond, List, [], ◌∷◌, length, IsTrue, refl, sym, ap, ◌∙◌, arith, inl, inr, nat_eq, take, get_or, true≢false}
 use Rattle.std.specs.Prelude.{◌&&◌, ◌||◌, not}
 use Rattle.std.specs.FinSet as set
 use Rattle.std.proofs.Math.Bool.{and-false, and-true, or-false, or-true}
@@ -14,13 +14,14 @@ use Rattle.change_spec.specs.Steps.{Step, node, link, unlink, drop, relabel, tou
 use Rattle.change_spec.specs.Named.{takes_away, is_dropped}
 use Rattle.change_spec.specs.Places.{CanMake, CanMakeAll}
 use Rattle.change_spec.proofs.KeptEdges.{kept_same, kept_twice, kept_more, kept_less, kept_gone}
-use Rattle.change_spec.proofs.StepPlaces.{dropped_gone, graph_all}
+use Rattle.change_spec.proofs.StepPlaces.{graph_all}
 use Rattle.graph_steps.specs.declared.changes.Step.{Step as Asked}
 use Rattle.graph_steps.specs.declared.changes.Step.TheVariants.{Node, Link, Unlink, Drop, Relabel}
 use Rattle.graph_steps.specs.StepLists.{step_of, steps_of}
 use Rattle.graph_steps.specs.Counted.{touching}
 use Rattle.graph_steps.proofs.FrontSteps.{more_at}
 use Rattle.graph_steps.proofs.GrownCounts.{edges_same}
+use Rattle.graph_steps.proofs.NamedParts.{live_stays}
 use Rattle.graph_steps.specs.Degrees.{stays_at, staying, one_for, lost_by, gained_by, cut_by}
 
 -- ---- what is gone
@@ -32,24 +33,15 @@ gone_more ss i s n h e =
     ∙ list_any-append (λ x. takes_away x n) (steps_of (take i ss)) (step_of s ∷ [])
     ∙ ap (λ b. is_dropped (steps_of (take i ss)) n || b) (or-false (takes_away (step_of s) n))
 
--- a step that takes a node away is a drop of it
-taken_dropped : (s : Step) (n : ℕ) → takes_away s n ≡ true → s ≡ drop n
-taken_dropped (node t) n h = absurd (true≢false (sym h))
-taken_dropped (link u v) n h = absurd (true≢false (sym h))
-taken_dropped (unlink u v) n h = absurd (true≢false (sym h))
-taken_dropped (drop u) n h = elim (eqb_tells n u) [ inl e ↦ ap drop (sym e.1) | inr d ↦ absurd (true≢false (sym h ∙ d.0)) ]
-taken_dropped (relabel u t) n h = absurd (true≢false (sym h))
-
 -- a node that is live in the end wasn't taken away
 pub live_not_gone : (ss : List Asked) (g : Graph) (n : ℕ) → CanMakeAll (steps_of ss) g → IsTrue (is_live (after (steps_of ss) g) n) → is_dropped (steps_of ss) n ≡ false
-live_not_gone [] g n can live = refl
-live_not_gone (x ∷ xs) g n can live = elim (cases_Bool (takes_away (step_of x) n)) [
-  | inr off ↦ (rw off (live_not_gone xs (made (step_of x) g) n can.1 live))
-  | inl on ↦ absurd (
-      let is = taken_dropped (step_of x) n on in
-      let gone = dropped_gone (steps_of xs) g n (subst (λ s. CanMake s g) is can.0) (subst (λ s. CanMakeAll (steps_of xs) (made s g)) is can.1) in
-      true≢false (sym (subst (λ s. IsTrue (is_live (after (steps_of xs) (made s g)) n)) is live) ∙ gone))
-]
+live_not_gone ss g n can live = live_stays (steps_of ss) g n can live
+
+-- an edge that stays at a node has ends that do
+pub counted_stay : (u : ℕ) (gone : ℕ → Bool) (a b : ℕ) → stays_at u gone (a, b) ≡ true → (gone a ≡ false) × (gone b ≡ false)
+counted_stay u gone a b h =
+    let both = and_parts (not (gone a)) (not (gone b)) (and_parts (touches u (a, b)) (not (gone a) && not (gone b)) h).1 in
+    (not-true (gone a) both.0, not-true (gone b) both.1)
 
 -- ---- the edges of the graph as it is
 
@@ -206,8 +198,8 @@ staying_next (drop w) h u d can gone =
 
     off : (k : ℕ × ℕ) → stays_at u d k ≡ true → not (touches w k) ≡ true
     off (a, b) h =
-        let both = and_parts (not (d a)) (not (d b)) (and_parts (touches u (a, b)) (not (d a) && not (d b)) h).1 in
-        rw (no a (not-true (d a) both.0), no b (not-true (d b) both.1)) refl
+        let both = counted_stay u d a b h in
+        rw (no a both.0, no b both.1) refl
 
 -- in the end all edges at the node stay, since their ends are live
 pub staying_all : (ss : List Asked) (g : Graph) (u : ℕ) → IsGraph g → CanMakeAll (steps_of ss) g → staying (after (steps_of ss) g) u (is_dropped (steps_of ss)) ≡ touching (after (steps_of ss) g) u

@@ -1,5 +1,8 @@
 pub mod StepLists
 pub mod StepSpans
+pub mod NamedSteps
+pub mod NodePlaces
+pub mod GivenLabels
 pub mod NewChanges
 pub mod Counted
 pub mod Degrees

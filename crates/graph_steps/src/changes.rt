@@ -1,11 +1,14 @@
 // Changes as lists of steps, and verdicts on them.
-ghost use Rattle.std.specs.Prelude.{◌≡◌, ◌<◌, ◌≤◌, ◌+◌, ◌-◌, ◌||◌, ◌++◌, ◌∷◌, [], true, IfOk, OnOk, OnErr, ℕ, length, nat_eq, if◌then◌else◌};
+ghost use Rattle.std.specs.Prelude.{◌≡◌, ◌<◌, ◌≤◌, ◌+◌, ◌-◌, ◌||◌, ◌++◌, ◌∷◌, [], true, Some, IfOk, OnOk, OnErr, ℕ, length, nat_eq, slice_get, take, drop, if◌then◌else◌};
 ghost use Rattle.std.specs.List.{list_any};
 ghost use Rattle.indexmap.specs.IndexMap.{spare};
 ghost use Rattle.change_spec.specs.Named.{is_named, names};
 ghost use Rattle.graph_steps.specs.StepLists.{step_of, steps_of};
 ghost use Rattle.graph_steps.specs.StepSpans.{IsSpan, AreSpans, span_at, widened, Widens};
+ghost use Rattle.graph_steps.specs.NodePlaces.{place_if, node_places};
+ghost use Rattle.smallvec.specs.SmallVec.{HasRoomFor};
 
+use crate::parts::Front;
 use indexmap::IndexMap;
 use px_base::{Memory, NodeId, Text};
 use smallvec::SmallVec;
@@ -63,23 +66,31 @@ pub struct Change {
     steps: SmallVec<Step, 1>,
     // From the second step on: for each node that steps name, the span from the first that does to the last.
     spans: Spans,
+    // The places of the steps that add nodes, rising.
+    places: SmallVec<usize, 1>,
 }
 
 impl Drop for Change {
     // By hand, so that no crate above proves how the tables are dropped.
     fn drop(self) {
-        let Change { steps, spans } = self;
+        let Change {
+            steps,
+            spans,
+            places,
+        } = self;
         drop(steps);
         drop(spans);
+        drop(places);
     }
 }
 
 impl Model for Change {
-    ghost use Rattle.std.specs.Prelude.{List};
+    ghost use Rattle.std.specs.Prelude.{◌≡◌, List};
     ghost use Rattle.change_spec.specs.Steps.{Step as Value_of_step};
     ghost use Rattle.change_spec.specs.Codes.{steps_code};
     ghost use Rattle.graph_steps.specs.StepLists.{steps_of};
     ghost use Rattle.graph_steps.specs.StepSpans.{AreSpans};
+    ghost use Rattle.graph_steps.specs.NodePlaces.{node_places};
 
     ghost Value = { List Value_of_step };
 
@@ -87,7 +98,7 @@ impl Model for Change {
 
     ghost view = { λ c. steps_of c.steps.items };
 
-    ghost invariant = { λ c. AreSpans (steps_of c.steps.items) c.spans.entries };
+    ghost invariant = { λ c. AreSpans (steps_of c.steps.items) c.spans.entries × (c.places.items ≡ node_places (steps_of c.steps.items)) };
 }
 
 impl Change {
@@ -98,6 +109,7 @@ impl Change {
         Ok(Change {
             steps: SmallVec::new(alloc),
             spans: IndexMap::new(alloc),
+            places: SmallVec::new(alloc),
         })
     }
 
@@ -106,10 +118,13 @@ impl Change {
         ensures { IfOk result (λ c. c ≡ step_of step ∷ []) }
     {
         let mut steps = SmallVec::new(alloc);
+        let mut places = SmallVec::new(alloc);
+        note_place(&mut places, &[], &step);
         steps.push_reserved(step);
         Ok(Change {
             steps,
             spans: IndexMap::new(alloc),
+            places,
         })
     }
 
@@ -120,7 +135,9 @@ impl Change {
         ensures err { OnErr result (self.new ≡ self.old) }
     {
         self.steps.reserve(1)?;
+        self.places.reserve(1)?;
         note(&mut self.spans, self.steps.as_slice(), &step)?;
+        note_place(&mut self.places, self.steps.as_slice(), &step);
         self.steps.push_reserved(step);
         Ok(())
     }
@@ -158,6 +175,44 @@ impl Change {
         }
         noted(&self.spans, n)
     }
+
+    /// How many steps add a node. O(1), no memory.
+    pub fn added(&self) -> usize
+        ensures { result ≡ length (node_places self.now) }
+    {
+        self.places.len()
+    }
+
+    /// The place of the step that adds a node once so many others are added. O(1), no memory.
+    pub fn node_place(&self, earlier: usize) -> usize
+        requires { earlier < length (node_places self.now) }
+        ensures { slice_get (node_places self.now) earlier ≡ Some result }
+    {
+        place_at(self.places.as_slice(), earlier)
+    }
+
+    /// The first steps, those before a place. O(1), no memory.
+    pub fn front(&self, past: usize) -> Front<'_>
+        requires { past ≤ length self.now }
+        ensures { result ≡ take past self.now }
+    {
+        Front::of(self, past)
+    }
+
+    /// All steps. O(1), no memory.
+    pub fn whole(&self) -> Front<'_>
+        ensures { result ≡ self.now }
+    {
+        Front::of(self, self.steps.len())
+    }
+}
+
+// The place at an index.
+fn place_at(places: &[usize], i: usize) -> usize
+    requires { i < length places.now }
+    ensures { slice_get places.now i ≡ Some result }
+{
+    places[i]
 }
 
 // Whether it is one of both.
@@ -261,6 +316,29 @@ fn name_ends(spans: &mut Spans, step: &Step, past: usize)
         Step::Drop(node) => name(spans, *node, past),
         Step::Relabel(node, _) => name(spans, *node, past),
     }
+}
+
+// Notes the place, where the step adds a node.
+fn place_if(places: &mut SmallVec<usize, 1>, step: &Step, place: usize)
+    requires { HasRoomFor places.old 1 }
+    ensures { places.new.items ≡ places.old.items ++ place_if (step_of step.now) place }
+{
+    match step {
+        Step::Node(_) => places.push_reserved(place),
+        Step::Link(_, _) => (),
+        Step::Unlink(_, _) => (),
+        Step::Drop(_) => (),
+        Step::Relabel(_, _) => (),
+    }
+}
+
+// The same of one more step behind those that there are.
+fn note_place(places: &mut SmallVec<usize, 1>, steps: &[Step], step: &Step)
+    requires room { HasRoomFor places.old 1 }
+    requires places { places.old.items ≡ node_places (steps_of steps.now) }
+    ensures { places.new.items ≡ node_places (steps_of steps.now ++ step_of step.now ∷ []) }
+{
+    place_if(places, step, steps.len());
 }
 
 // Notes the first step where it is the only one, since it is noted once a second one comes.

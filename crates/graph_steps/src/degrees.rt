@@ -1,5 +1,5 @@
 // How many edges a node has once some steps are made.
-ghost use Rattle.std.specs.Prelude.{◌≡◌, ◌<◌, ◌≤◌, ◌+◌, ◌-◌, ◌^◌, ◌&&◌, not, length, IsTrue};
+ghost use Rattle.std.specs.Prelude.{◌≡◌, ◌<◌, ◌≤◌, ◌+◌, ◌-◌, ◌^◌, ◌&&◌, not, ℕ, false, length, IsTrue};
 ghost use Rattle.std.specs.List.{list_any};
 ghost use Rattle.graph_spec.specs.Graphs.{is_live, has_edge as edge_in};
 ghost use Rattle.change_spec.specs.Steps.{after};
@@ -11,6 +11,7 @@ ghost use Rattle.graph_steps.specs.Degrees.{stays_at, staying, one_for, lost_by,
 
 use crate::changes::Step;
 use crate::fronts::{edge_before, has_edge};
+use crate::parts::Front;
 use label_graph::Graph;
 use px_base::{NodeId, Steps};
 use std::marker::Brand;
@@ -95,23 +96,35 @@ fn is_counted(front: &[Step], u: NodeId, a: NodeId, b: NodeId) -> bool
 }
 
 // Whether an edge that a link names comes, and is counted.
-fn is_gained(graph: &Graph, front: &[Step], whole: &[Step], u: NodeId, a: NodeId, b: NodeId) -> bool
-    ensures { result ≡ (stays_at u (is_dropped (steps_of whole.now)) (a, b) && not (edge_in (after (steps_of front.now) graph.now.graph) a b)) }
+fn is_gained(
+    graph: &Graph,
+    front: &Front<'_>,
+    whole: &[Step],
+    u: NodeId,
+    a: NodeId,
+    b: NodeId,
+) -> bool
+    requires within { (n : ℕ) → is_dropped (steps_of whole.now) n ≡ false → is_dropped front.now n ≡ false }
+    ensures { result ≡ (stays_at u (is_dropped (steps_of whole.now)) (a, b) && not (edge_in (after front.now graph.now.graph) a b)) }
 {
-    is_counted(whole, u, a, b) && !has_edge(graph, front, a, b)
+    if is_counted(whole, u, a, b) {
+        return !has_edge(graph, front, a, b);
+    }
+    false
 }
 
 // The count once the next step is made, of the edges whose ends all steps leave.
 fn count_on(
     graph: &Graph,
-    front: &[Step],
+    front: &Front<'_>,
     step: &Step,
     whole: &[Step],
     u: NodeId,
     count: usize,
 ) -> usize
     requires few { count < 2 ^ 63 }
-    ensures { result ≡ counted_behind (after (steps_of front.now) graph.now.graph) u (is_dropped (steps_of whole.now)) (step_of step.now) count }
+    requires within { (n : ℕ) → is_dropped (steps_of whole.now) n ≡ false → is_dropped front.now n ≡ false }
+    ensures { result ≡ counted_behind (after front.now graph.now.graph) u (is_dropped (steps_of whole.now)) (step_of step.now) count }
 {
     match step {
         Step::Link(a, b) => count + usize::from(is_gained(graph, front, whole, u, *a, *b)),
@@ -136,17 +149,28 @@ fn edges_left(graph: &Graph, front: &[Step], u: NodeId) -> usize
 /// How many edges begin or end at a node that is live once the first steps are made; a loop is one. Its edges are not gone
 /// through one by one: O(s) for s steps, O(s) more for each of them that names the node, and what it takes to look up its
 /// loop, two edges for each node that is taken away, and each edge at it that is linked. No memory.
-pub fn edges_at(graph: &Graph, front: &[Step], u: NodeId) -> usize
+pub fn edges_at(graph: &Graph, front: &Front<'_>, u: NodeId) -> usize
     requires few { length front.now ≤ 1024 }
-    requires can { CanMakeAll (steps_of front.now) graph.now.graph }
-    requires live { IsTrue (is_live (after (steps_of front.now) graph.now.graph) u) }
-    ensures { result ≡ touching (after (steps_of front.now) graph.now.graph) u }
+    requires can { CanMakeAll front.now graph.now.graph }
+    requires live { IsTrue (is_live (after front.now graph.now.graph) u) }
+    ensures { result ≡ touching (after front.now graph.now.graph) u }
+{
+    edges_behind(graph, front, front.steps(), u)
+}
+
+// The same, of these steps.
+fn edges_behind(graph: &Graph, front: &Front<'_>, steps: &[Step], u: NodeId) -> usize
+    requires same { steps_of steps.now ≡ front.now }
+    requires few { length steps.now ≤ 1024 }
+    requires can { CanMakeAll (steps_of steps.now) graph.now.graph }
+    requires live { IsTrue (is_live (after (steps_of steps.now) graph.now.graph) u) }
+    ensures { result ≡ touching (after (steps_of steps.now) graph.now.graph) u }
 {
     // Called for its contract: edges are few.
     let _edges = graph.edge_count();
-    let mut count = edges_left(graph, front, u);
-    for i in 0..front.len() {
-        count = count_on(graph, &front[..i], &front[i], front, u, count);
+    let mut count = edges_left(graph, steps, u);
+    for i in 0..steps.len() {
+        count = count_on(graph, &front.front(i), &steps[i], steps, u, count);
     }
     count
 }

@@ -1,57 +1,35 @@
 // A graph as the first steps of a change will leave it.
-ghost use Rattle.std.specs.Prelude.{◌≡◌, ◌+◌, ◌<◌, ◌≤◌, ◌^◌, ◌&&◌, ◌||◌, not, nat_eq, bytes_eq, length};
-ghost use Rattle.graph_spec.specs.Graphs.{Graph as Seen, is_live, label_of, has_edge, is_seen};
-ghost use Rattle.change_spec.specs.Steps.{made, after, is_text};
+ghost use Rattle.std.specs.Prelude.{◌≡◌, ◌<◌, ◌&&◌, ◌||◌, not, false, nat_eq, nat_lt, bytes_eq, length};
+ghost use Rattle.graph_spec.specs.Graphs.{Graph as Seen, is_live, has_edge, is_seen};
+ghost use Rattle.change_spec.specs.Steps.{made, after};
 ghost use Rattle.change_spec.specs.Places.{CanMakeAll};
-ghost use Rattle.graph_steps.specs.StepLists.{step_of, steps_of, LivesAfter, NamesAfter};
+ghost use Rattle.change_spec.specs.Named.{is_dropped};
+ghost use Rattle.change_spec.specs.Shown.{edge_by, edge_after};
+ghost use Rattle.graph_steps.specs.StepLists.{step_of, steps_of};
 
 use crate::changes::Step;
+use crate::parts::Front;
 use label_graph::{Graph, Labels};
 use px_base::{NodeId, Steps, Text};
 use std::marker::Brand;
 use std::sync::ledger::{Blank, Ledger};
 
-// Whether a number is that of a live node, and the next number to be allocated.
-#[derive(Clone, Copy)]
-struct Life {
-    live: bool,
-    next: u64,
+// Whether the number is one that steps allocate, where so many are allocated behind them.
+fn is_added(graph: &Graph, created: u32, n: NodeId) -> bool
+    ensures { result ≡ (not (nat_lt n (length graph.now.graph.allocated)) && nat_lt n created) }
+{
+    !(n < graph.created()) && n < created
 }
 
-// The same once a step is made.
-fn life_after(life: Life, step: &Step, n: NodeId) -> Life
-    requires few { life.next < 2 ^ 63 }
-    ensures live { LivesAfter (step_of step.now) life.live life.next n result.live }
-    ensures next { (h : Seen) → life.next ≡ length h.allocated → result.next ≡ length (made (step_of step.now) h).allocated }
-    ensures most { result.next ≤ life.next + 1 }
+/// Whether the number is that of a live node once the first steps are made, which leave so many numbers allocated. Expected
+/// O(1), and the steps from the first to the last that names the node are gone through; no memory.
+pub(crate) fn is_live(graph: &Graph, front: &Front<'_>, created: u32, n: NodeId) -> bool
+    requires can { CanMakeAll front.now graph.now.graph }
+    requires created { created ≡ length (after front.now graph.now.graph).allocated }
+    ensures { result ≡ is_live (after front.now graph.now.graph) n }
 {
-    match step {
-        Step::Node(_) => Life {
-            live: life.live || u64::from(n) == life.next,
-            next: life.next + 1,
-        },
-        Step::Drop(u) => Life {
-            live: life.live && n != *u,
-            next: life.next,
-        },
-        _ => life,
-    }
-}
-
-/// Whether the number is that of a live node once the first steps are made.
-pub(crate) fn is_live(graph: &Graph, front: &[Step], n: NodeId) -> bool
-    requires few { length front.now ≤ 1024 }
-    requires can { CanMakeAll (steps_of front.now) graph.now.graph }
-    ensures { result ≡ is_live (after (steps_of front.now) graph.now.graph) n }
-{
-    let mut life = Life {
-        live: graph.is_live(n),
-        next: u64::from(graph.created()),
-    };
-    for i in 0..front.len() {
-        life = life_after(life, &front[i], n);
-    }
-    life.live
+    let there = either(graph.is_live(n), is_added(graph, created, n));
+    is_left(there, front.is_dropped(n))
 }
 
 // Whether both are those.
@@ -80,16 +58,42 @@ fn is_left(present: bool, goes: bool) -> bool
     present && !goes
 }
 
-// Whether the edge is present once a step is made.
-fn edge_after(present: bool, step: &Step, u: NodeId, v: NodeId) -> bool
-    ensures { (h : Seen) → present ≡ has_edge h u v → result ≡ has_edge (made (step_of step.now) h) u v }
+// Whether the edge is there behind the step, where it was or wasn't.
+fn edge_by(step: &Step, u: NodeId, v: NodeId, present: bool) -> bool
+    ensures { result ≡ edge_by (step_of step.now) u v present }
 {
     match step {
-        Step::Link(a, b) => either(is_pair(u, v, *a, *b), present),
-        Step::Unlink(a, b) => is_left(present, is_pair(u, v, *a, *b)),
-        Step::Drop(w) => is_left(present, is_end(u, v, *w)),
+        Step::Link(a, b) => is_pair(u, v, *a, *b) || present,
+        Step::Unlink(a, b) => !is_pair(u, v, *a, *b) && present,
+        Step::Drop(w) => present && !is_end(u, v, *w),
         _ => present,
     }
+}
+
+/// Whether an edge is there behind steps, where it was or wasn't in front of them. O(s) for s steps, no memory.
+pub fn edge_behind(steps: &[Step], u: NodeId, v: NodeId, present: bool) -> bool
+    ensures { result ≡ edge_after (steps_of steps.now) u v present }
+{
+    let mut there = present;
+    for i in 0..steps.len() {
+        there = edge_by(&steps[i], u, v, there);
+    }
+    there
+}
+
+/// Whether an edge is there once the first steps are made, none of which takes an end of it away, where it was or wasn't
+/// before. Expected O(1), and the steps from the first to the last that names an end are gone through, for the end where
+/// these are fewer; no memory.
+pub fn edge_after(front: &Front<'_>, u: NodeId, v: NodeId, present: bool) -> bool
+    requires from { is_dropped front.now u ≡ false }
+    requires onto { is_dropped front.now v ≡ false }
+    ensures { result ≡ edge_after front.now u v present }
+{
+    let (from, onto) = (front.naming(0, u), front.naming(0, v));
+    if from.len() <= onto.len() {
+        return edge_behind(from, u, v, present);
+    }
+    edge_behind(onto, u, v, present)
 }
 
 fn counted_edge<L: Ledger>(graph: &Graph, from: NodeId, to: NodeId, blank: Blank) -> bool
@@ -102,27 +106,26 @@ fn counted_edge<L: Ledger>(graph: &Graph, from: NodeId, to: NodeId, blank: Blank
     graph.has_edge(from, to, &mut steps)
 }
 
-/// Whether the edge is present in the graph as it is.
-pub(crate) fn edge_before(graph: &Graph, from: NodeId, to: NodeId) -> bool
+/// Whether the edge is present in the graph as it is. O(min(c, p)) where the one node has c children and the other p
+/// parents; no memory.
+pub fn edge_before(graph: &Graph, from: NodeId, to: NodeId) -> bool
     ensures { result ≡ has_edge graph.now.graph from to }
 {
     counted_edge::<Brand>(graph, from, to, Blank::new(1))
 }
 
-/// Whether the edge is present once the first steps are made. O(min(c, p)) in a graph where the one node has c children
-/// and the other p parents, and O(s) for s steps; no memory.
-pub fn has_edge(graph: &Graph, front: &[Step], u: NodeId, v: NodeId) -> bool
-    ensures { result ≡ has_edge (after (steps_of front.now) graph.now.graph) u v }
+/// Whether an edge is present once the first steps are made, none of which takes an end of it away. It takes what
+/// `edge_after` takes, and O(min(c, p)) in a graph where the one node has c children and the other p parents; no memory.
+pub fn has_edge(graph: &Graph, front: &Front<'_>, u: NodeId, v: NodeId) -> bool
+    requires from { is_dropped front.now u ≡ false }
+    requires onto { is_dropped front.now v ≡ false }
+    ensures { result ≡ has_edge (after front.now graph.now.graph) u v }
 {
-    let mut present = edge_before(graph, u, v);
-    for i in 0..front.len() {
-        present = edge_after(present, &front[i], u, v);
-    }
-    present
+    edge_after(front, u, v, edge_before(graph, u, v))
 }
 
-// Whether the texts are the same.
-fn is_same(a: &Text, b: &Text) -> bool
+/// Whether the texts are the same.
+pub(crate) fn is_same(a: &Text, b: &Text) -> bool
     ensures { result ≡ bytes_eq a.now b.now }
 {
     *a == *b
@@ -159,66 +162,4 @@ pub fn is_seen(graph: &Graph, front: &[Step], text: &Text) -> bool
         seen = seen_after(seen, &front[i], text);
     }
     seen
-}
-
-// Whether a node has the label that is asked for, and the next number to be allocated.
-#[derive(Clone, Copy)]
-struct Naming {
-    has: bool,
-    next: u64,
-}
-
-// The same once a step is made.
-fn naming_after(naming: Naming, step: &Step, u: NodeId, text: &Text) -> Naming
-    requires few { naming.next < 2 ^ 63 }
-    ensures has { NamesAfter (step_of step.now) naming.has naming.next u text.now result.has }
-    ensures next { (h : Seen) → naming.next ≡ length h.allocated → result.next ≡ length (made (step_of step.now) h).allocated }
-    ensures most { result.next ≤ naming.next + 1 }
-{
-    match step {
-        Step::Node(label) => Naming {
-            has: if u64::from(u) == naming.next {
-                *text == *label
-            } else {
-                naming.has
-            },
-            next: naming.next + 1,
-        },
-        Step::Drop(w) => Naming {
-            has: naming.has && u != *w,
-            next: naming.next,
-        },
-        Step::Relabel(w, label) => Naming {
-            has: if u == *w { *text == *label } else { naming.has },
-            next: naming.next,
-        },
-        _ => naming,
-    }
-}
-
-// Whether a node has that label in the graph as it is.
-fn label_before(graph: &Graph, u: NodeId, text: &Text) -> bool
-    ensures { result ≡ is_text text.now (label_of graph.now.graph u) }
-{
-    if !graph.is_live(u) {
-        return false;
-    }
-    *text == *graph.labels().text(graph.label(u))
-}
-
-/// Whether a node has that label once the first steps are made. O(b) for a text of b bytes, and O(s) compares for s steps;
-/// no memory.
-pub fn has_label(graph: &Graph, front: &[Step], u: NodeId, text: &Text) -> bool
-    requires few { length front.now ≤ 1024 }
-    requires can { CanMakeAll (steps_of front.now) graph.now.graph }
-    ensures { result ≡ is_text text.now (label_of (after (steps_of front.now) graph.now.graph) u) }
-{
-    let mut naming = Naming {
-        has: label_before(graph, u, text),
-        next: u64::from(graph.created()),
-    };
-    for i in 0..front.len() {
-        naming = naming_after(naming, &front[i], u, text);
-    }
-    naming.has
 }

@@ -11,35 +11,44 @@ ghost use Rattle.graph_steps.specs.Verdicts.{Judges};
 use crate::changes::{Change, Step, Verdict};
 use crate::counting::{Counts, Exact, Taken, counts_of, exact_for};
 use crate::degrees::edges_at;
-use crate::fronts::{either, has_edge, has_label, is_live, is_seen};
+use crate::fronts::{either, has_edge, is_live, is_seen};
+use crate::given::has_label;
+use crate::parts::Front;
 use label_graph::Graph;
 use px_base::{Limits, NodeId, Refusal, Text};
 
 // How many steps a change may have.
 const MOST_STEPS: usize = 1024;
 
+// Whether the label isn't one yet once the first steps are made.
+fn is_unseen(graph: &Graph, front: &Front<'_>, label: &Text) -> bool
+    ensures { result ≡ not (seen_in (after front.now graph.now.graph).seen label.now) }
+{
+    !is_seen(graph, front.steps(), label)
+}
+
 // Whether the label may be one more: where labels aren't counted, it is taken for one.
-fn is_more(graph: &Graph, front: &[Step], label: &Text, exact: Exact) -> bool
-    ensures counted { exact.labels ≡ true → result ≡ not (seen_in (after (steps_of front.now) graph.now.graph).seen label.now) }
+fn is_more(graph: &Graph, front: &Front<'_>, label: &Text, exact: Exact) -> bool
+    ensures counted { exact.labels ≡ true → result ≡ not (seen_in (after front.now graph.now.graph).seen label.now) }
     ensures uncounted { exact.labels ≡ false → result ≡ true }
 {
     if exact.labels {
-        return !is_seen(graph, front, label);
+        return is_unseen(graph, front, label);
     }
     true
 }
 
 fn judge_node(
     graph: &Graph,
-    front: &[Step],
+    front: &Front<'_>,
     label: &Text,
     limits: &Limits,
     exact: Exact,
     counts: Counts,
 ) -> Result<Taken, Refusal>
-    requires counts { AreCounts exact counts (after (steps_of front.now) graph.now.graph) }
+    requires counts { AreCounts exact counts (after front.now graph.now.graph) }
     requires labels { exact.labels ≡ false → counts.labels < limits.now.labels }
-    ensures { StepComes exact counts (node label.now) (after (steps_of front.now) graph.now.graph) limits.now result }
+    ensures { StepComes exact counts (node label.now) (after front.now graph.now.graph) limits.now result }
 {
     if counts.created >= limits.nodes {
         return Err(Refusal::Limit);
@@ -60,20 +69,19 @@ fn judge_node(
 
 fn judge_link(
     graph: &Graph,
-    front: &[Step],
+    front: &Front<'_>,
     u: NodeId,
     v: NodeId,
     limits: &Limits,
     exact: Exact,
     counts: Counts,
 ) -> Result<Taken, Refusal>
-    requires few { length front.now ≤ 1024 }
-    requires can { CanMakeAll (steps_of front.now) graph.now.graph }
-    requires counts { AreCounts exact counts (after (steps_of front.now) graph.now.graph) }
+    requires can { CanMakeAll front.now graph.now.graph }
+    requires counts { AreCounts exact counts (after front.now graph.now.graph) }
     requires edges { exact.edges ≡ false → counts.edges < limits.now.edges }
-    ensures { StepComes exact counts (link u v) (after (steps_of front.now) graph.now.graph) limits.now result }
+    ensures { StepComes exact counts (link u v) (after front.now graph.now.graph) limits.now result }
 {
-    if !is_live(graph, front, u) || !is_live(graph, front, v) {
+    if !is_live(graph, front, counts.created, u) || !is_live(graph, front, counts.created, v) {
         return Err(Refusal::NoNode);
     }
     if has_edge(graph, front, u, v) {
@@ -97,18 +105,17 @@ fn judge_link(
 
 fn judge_unlink(
     graph: &Graph,
-    front: &[Step],
+    front: &Front<'_>,
     u: NodeId,
     v: NodeId,
     exact: Exact,
     counts: Counts,
 ) -> Result<Taken, Refusal>
-    requires few { length front.now ≤ 1024 }
-    requires can { CanMakeAll (steps_of front.now) graph.now.graph }
-    requires counts { AreCounts exact counts (after (steps_of front.now) graph.now.graph) }
-    ensures { (limits : Limits) → StepComes exact counts (unlink u v) (after (steps_of front.now) graph.now.graph) limits result }
+    requires can { CanMakeAll front.now graph.now.graph }
+    requires counts { AreCounts exact counts (after front.now graph.now.graph) }
+    ensures { (limits : Limits) → StepComes exact counts (unlink u v) (after front.now graph.now.graph) limits result }
 {
-    if !is_live(graph, front, u) || !is_live(graph, front, v) {
+    if !is_live(graph, front, counts.created, u) || !is_live(graph, front, counts.created, v) {
         return Err(Refusal::NoNode);
     }
     if !has_edge(graph, front, u, v) {
@@ -125,11 +132,11 @@ fn judge_unlink(
 }
 
 // How many edges go with a node, where they are counted.
-fn going(graph: &Graph, front: &[Step], u: NodeId, exact: Exact) -> usize
+fn going(graph: &Graph, front: &Front<'_>, u: NodeId, exact: Exact) -> usize
     requires few { length front.now ≤ 1024 }
-    requires can { CanMakeAll (steps_of front.now) graph.now.graph }
-    requires live { IsTrue (live_in (after (steps_of front.now) graph.now.graph) u) }
-    ensures counted { exact.edges ≡ true → result ≡ touching (after (steps_of front.now) graph.now.graph) u }
+    requires can { CanMakeAll front.now graph.now.graph }
+    requires live { IsTrue (live_in (after front.now graph.now.graph) u) }
+    ensures counted { exact.edges ≡ true → result ≡ touching (after front.now graph.now.graph) u }
     ensures uncounted { exact.edges ≡ false → result ≡ 0 }
 {
     if exact.edges {
@@ -147,17 +154,17 @@ fn fewer(count: u32, gone: usize) -> u32
 
 fn judge_drop(
     graph: &Graph,
-    front: &[Step],
+    front: &Front<'_>,
     u: NodeId,
     exact: Exact,
     counts: Counts,
 ) -> Result<Taken, Refusal>
     requires few { length front.now ≤ 1024 }
-    requires can { CanMakeAll (steps_of front.now) graph.now.graph }
-    requires counts { AreCounts exact counts (after (steps_of front.now) graph.now.graph) }
-    ensures { (limits : Limits) → StepComes exact counts (drop u) (after (steps_of front.now) graph.now.graph) limits result }
+    requires can { CanMakeAll front.now graph.now.graph }
+    requires counts { AreCounts exact counts (after front.now graph.now.graph) }
+    ensures { (limits : Limits) → StepComes exact counts (drop u) (after front.now graph.now.graph) limits result }
 {
-    if !is_live(graph, front, u) {
+    if !is_live(graph, front, counts.created, u) {
         return Err(Refusal::NoNode);
     }
     let gone = going(graph, front, u, exact);
@@ -173,20 +180,19 @@ fn judge_drop(
 
 fn judge_relabel(
     graph: &Graph,
-    front: &[Step],
+    front: &Front<'_>,
     u: NodeId,
     label: &Text,
     limits: &Limits,
     exact: Exact,
     counts: Counts,
 ) -> Result<Taken, Refusal>
-    requires few { length front.now ≤ 1024 }
-    requires can { CanMakeAll (steps_of front.now) graph.now.graph }
-    requires counts { AreCounts exact counts (after (steps_of front.now) graph.now.graph) }
+    requires can { CanMakeAll front.now graph.now.graph }
+    requires counts { AreCounts exact counts (after front.now graph.now.graph) }
     requires labels { exact.labels ≡ false → counts.labels < limits.now.labels }
-    ensures { StepComes exact counts (relabel u label.now) (after (steps_of front.now) graph.now.graph) limits.now result }
+    ensures { StepComes exact counts (relabel u label.now) (after front.now graph.now.graph) limits.now result }
 {
-    if !is_live(graph, front, u) {
+    if !is_live(graph, front, counts.created, u) {
         return Err(Refusal::NoNode);
     }
     let more = is_more(graph, front, label, exact);
@@ -211,19 +217,26 @@ fn judge_relabel(
 /// `Limit`.
 ///
 /// One step is expected O(b) for a label of b bytes, O(min(c, p)) for an edge that leads from a node with c children to
-/// one with p parents, and O(1) for a node to be dropped. Each of s steps looks through those before it too:
-/// O(s). Only where so many steps could reach the limit of edges, the edges at a node to be dropped are counted: see
-/// `edges_at`. No memory.
+/// one with p parents, and O(1) for a node to be dropped. Of more steps each looks through those before it too that name
+/// its nodes, from the first to the last. Only where so many steps could reach the limit of labels, it compares a label with
+/// those of all steps before it; and where they could reach that of edges, the edges at a node to be dropped are counted:
+/// see `edges_at`. No memory.
 pub fn judge(graph: &Graph, change: &Change, limits: &Limits) -> Result<Verdict, Refusal>
     ensures judges { Judges change.now graph.now.graph limits.now result }
     ensures new { result ≡ Ok Verdict.New → IsNew change.now graph.now.graph }
     ensures highest { AreHighest limits.now → IsNew change.now graph.now.graph → result ≡ Ok Verdict.New }
     ensures index { result ≢ Err Refusal.NoIndex }
 {
-    judge_steps(graph, change.steps(), limits)
+    judge_steps(graph, change, change.steps(), limits)
 }
 
-fn judge_steps(graph: &Graph, steps: &[Step], limits: &Limits) -> Result<Verdict, Refusal>
+fn judge_steps(
+    graph: &Graph,
+    change: &Change,
+    steps: &[Step],
+    limits: &Limits,
+) -> Result<Verdict, Refusal>
+    requires same { steps_of steps.now ≡ change.now }
     ensures judges { Judges (steps_of steps.now) graph.now.graph limits.now result }
 {
     if steps.len() > MOST_STEPS {
@@ -233,7 +246,7 @@ fn judge_steps(graph: &Graph, steps: &[Step], limits: &Limits) -> Result<Verdict
     let exact = exact_for(counts, limits, steps.len());
     let mut new = false;
     for i in 0..steps.len() {
-        match judge_at(graph, steps, i, limits, exact, counts) {
+        match judge_at(graph, change, steps, i, limits, exact, counts) {
             Ok(taken) => {
                 counts = taken.counts;
                 new = either(new, taken.alters);
@@ -253,12 +266,14 @@ fn verdict_of(new: bool) -> Verdict
 // What the step at a place comes to, where those before it are accepted.
 fn judge_at(
     graph: &Graph,
+    change: &Change,
     steps: &[Step],
     i: usize,
     limits: &Limits,
     exact: Exact,
     counts: Counts,
 ) -> Result<Taken, Refusal>
+    requires same { steps_of steps.now ≡ change.now }
     requires place { i < length steps.now }
     requires few { length steps.now ≤ 1024 }
     requires can { CanMakeAll (steps_of (take i steps.now)) graph.now.graph }
@@ -267,24 +282,24 @@ fn judge_at(
     requires labels { exact.labels ≡ false → counts.labels < limits.now.labels }
     ensures { ComesAt exact counts steps.now i graph.now.graph limits.now result }
 {
-    judge_step(graph, &steps[..i], &steps[i], limits, exact, counts)
+    judge_step(graph, &change.front(i), &steps[i], limits, exact, counts)
 }
 
 // What a step comes to, where those before it are accepted.
 fn judge_step(
     graph: &Graph,
-    front: &[Step],
+    front: &Front<'_>,
     step: &Step,
     limits: &Limits,
     exact: Exact,
     counts: Counts,
 ) -> Result<Taken, Refusal>
     requires few { length front.now ≤ 1024 }
-    requires can { CanMakeAll (steps_of front.now) graph.now.graph }
-    requires counts { AreCounts exact counts (after (steps_of front.now) graph.now.graph) }
+    requires can { CanMakeAll front.now graph.now.graph }
+    requires counts { AreCounts exact counts (after front.now graph.now.graph) }
     requires edges { exact.edges ≡ false → counts.edges < limits.now.edges }
     requires labels { exact.labels ≡ false → counts.labels < limits.now.labels }
-    ensures { StepComes exact counts (step_of step.now) (after (steps_of front.now) graph.now.graph) limits.now result }
+    ensures { StepComes exact counts (step_of step.now) (after front.now graph.now.graph) limits.now result }
 {
     match step {
         Step::Node(label) => judge_node(graph, front, label, limits, exact, counts),

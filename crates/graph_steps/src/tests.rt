@@ -83,6 +83,20 @@ const ROWS: &[(&[Plain], Outcome)] = &[
     (&[Relabel(1, b'b'), Node(b'c')], Err(Refusal::Limit)),
     (&[Node(b'b'), Relabel(1, b'c')], Err(Refusal::Limit)),
     (&[Node(b'b'), Relabel(9, b'c')], Err(Refusal::NoNode)),
+    // an edge goes and comes between steps that name other nodes
+    (
+        &[Unlink(0, 1), Link(1, 2), Link(0, 1), Unlink(0, 2)],
+        Ok(Verdict::New),
+    ),
+    (
+        &[Link(1, 2), Unlink(0, 2), Unlink(1, 2), Unlink(1, 2)],
+        Err(Refusal::NoEdge),
+    ),
+    (&[Unlink(0, 1), Gone(2), Unlink(0, 1)], Err(Refusal::NoEdge)),
+    (
+        &[Node(b'a'), Link(0, 1), Node(b'a'), Link(0, 4), Link(3, 4)],
+        Err(Refusal::Limit),
+    ),
 ];
 
 fn step_of(alloc: Global, plain: Plain) -> Result<Step, Fail> {
@@ -163,5 +177,7 @@ fn steps_and_names(rt: HostRuntime) -> Result<(), Fail> {
     assert!(rt; change.may_name(3) && !is_dropped(change.steps(), 3));
     let (first, last) = (change.span(2), change.span(3));
     assert!(rt; (first.first, first.past) == (0, 1) && (last.first, last.past) == (2, 3));
+    let whole = change.whole();
+    assert!(rt; whole.is_dropped(2) && !whole.is_dropped(0) && whole.naming(0, 3).len() == 1);
     Ok(())
 }

@@ -1,10 +1,9 @@
 -- The labels of a graph that steps leave, and their numbers.
-use Rattle.std.proofs.Common.{◌≡◌, ℕ, zero, suc, ◌+◌, ◌-◌, ◌<◌, ◌≤◌, ◌^◌, Bool, true, false, cond, List, [], ◌∷◌, ◌++◌, length, Option, Some, None, Ok, Err, IsTrue, refl, sym, ap, ◌∙◌, subst, arith, inl, inr, nat_lt, get_or, take, length-append, true≢false}
-use Rattle.std.specs.Prelude.{◌||◌, not, is_some, Result, nat_eq, option_and_then, option_map, slice_get, position, bytes_eq, if◌then◌else◌}
+use Rattle.std.proofs.Common.{◌≡◌, ℕ, zero, suc, ◌+◌, ◌-◌, ◌<◌, ◌≤◌, ◌^◌, Bool, true, false, cond, List, [], ◌∷◌, ◌++◌, length, Option, Some, None, Ok, Err, refl, sym, ap, ◌∙◌, subst, arith, inl, inr, nat_lt, get_or, take, length-append}
+use Rattle.std.specs.Prelude.{◌||◌, not, is_some, Result, option_and_then, slice_get, position, bytes_eq, if◌then◌else◌}
 use Rattle.std.specs.List.{list_any, prefix_len, position_or_len}
-use Rattle.std.specs.Option.{option_or}
-use Rattle.std.proofs.lemmas.Bool.{cases_Bool, and_parts, eqb-true, eqb-false}
-use Rattle.std.proofs.lemmas.Bool.Decides.{eqb_tells, nat_tests}
+use Rattle.std.proofs.lemmas.Bool.{cases_Bool, and_parts}
+use Rattle.std.proofs.lemmas.Bool.Decides.{nat_tests}
 use Rattle.std.proofs.lemmas.List.Quantifiers.{position-Some}
 use Rattle.std.proofs.lemmas.Option.{slice_get-get_or}
 use Rattle.std.proofs.lemmas.Slice.Eq.{bytes_eq-Decides}
@@ -16,15 +15,12 @@ use Rattle.graph_spec.specs.Changes.{with_node, with_label, node_fits}
 use Rattle.graph_spec.proofs.ListLemmas.{found, is_found}
 use Rattle.label_graph.specs.GraphViews.{label_number}
 use Rattle.change_spec.specs.Steps.{Step, node, link, unlink, drop, relabel, made, after, apply_step, apply_all, label_fits, labelled}
-use Rattle.change_spec.specs.Places.{CanMake}
-use Rattle.change_spec.proofs.StepGraphs.{first_made, stepped, label_other, label_gone, label_given}
-use Rattle.change_spec.proofs.StepPlaces.{label_added, label_last}
+use Rattle.change_spec.proofs.StepGraphs.{first_made, stepped}
 use Rattle.change_spec.proofs.Accepted.{accepted_all}
 use Rattle.graph_steps.specs.NewChanges.{IsNew}
 use Rattle.graph_steps.specs.StepLists.{step_of, steps_of}
 use Rattle.graph_steps.specs.declared.changes.Step.{Step as Asked}
 use Rattle.graph_steps.proofs.GrownCounts.{is_some-position}
-use Rattle.graph_update.specs.PendingChanges.{given_by}
 
 -- ---- numbers
 
@@ -176,52 +172,7 @@ number_text g n l e = option_text g.seen (label_of g n) l e
 pub number_is : (g : Graph) (n l : ℕ) (t : List ℕ) → label_of g n ≡ Some t → position (bytes_eq t) g.seen ≡ Some l → label_number g n ≡ Some l
 number_is g n l t e p = ap (option_and_then (λ r. position (bytes_eq r) g.seen)) e ∙ p
 
--- ---- the label that steps give a node
-
-chosen : (b : Bool) (t r : List ℕ) → (if b then Some t else None) ≡ Some r → (b ≡ true) × (t ≡ r)
-chosen true t r e = (refl, cc)
-chosen false t r e = cc
-
-refused : (b : Bool) (t : List ℕ) → (if b then Some t else None) ≡ None → b ≡ false
-refused true t e = cc
-refused false t e = refl
-
--- the node has the label that a step gives it
-given_here : (s : Step) (h : Graph) (n : ℕ) (t : List ℕ) → CanMake s h → given_by s (length h.allocated) n ≡ Some t → label_of (made s h) n ≡ Some t
-given_here (node r) h n t can e =
-    let c = chosen (nat_eq n (length h.allocated)) r t e in
-    ap (label_of (with_node h r)) (eqb-true n (length h.allocated) c.0) ∙ label_last h r ∙ ap Some c.1
-given_here (link u v) h n t can e = cc
-given_here (unlink u v) h n t can e = cc
-given_here (drop u) h n t can e = cc
-given_here (relabel u r) h n t can e =
-    let c = chosen (nat_eq n u) r t e in
-    ap (label_of (labelled h u r)) (eqb-true n u c.0) ∙ label_given h u r can ∙ ap Some c.1
-
--- or the one that it had
-given_kept : (s : Step) (h : Graph) (n : ℕ) → given_by s (length h.allocated) n ≡ None → IsTrue (is_live (made s h) n) → label_of (made s h) n ≡ label_of h n
-given_kept (node r) h n e live = label_added h r n (eqb-false n (length h.allocated) (refused (nat_eq n (length h.allocated)) r e))
-given_kept (link u v) h n e live = refl
-given_kept (unlink u v) h n e live = refl
-given_kept (drop u) h n e live = elim (eqb_tells n u) [
-  | inl i ↦ absurd (true≢false (sym live ∙ ap (is_live (made (drop u) h)) i.1 ∙ ap is_some (label_gone h u)))
-  | inr d ↦ label_other h.allocated u n None d.1
-]
-given_kept (relabel u r) h n e live = label_other h.allocated u n (Some r) (eqb-false n u (refused (nat_eq n u) r e))
-
--- so with one step more
-pub given_next : (s : Step) (h : Graph) (n : ℕ) (given before : Option (List ℕ)) → CanMake s h → (IsTrue (is_live h n) → label_of h n ≡ option_or given before) → IsTrue (is_live (made s h) n)
-    → label_of (made s h) n ≡ option_or (option_or (given_by s (length h.allocated) n) given) before
-given_next s h n given before can prior live = next (given_by s (length h.allocated) n) refl
-  where
-    next : (o : Option (List ℕ)) → given_by s (length h.allocated) n ≡ o → label_of (made s h) n ≡ option_or (option_or o given) before
-    next None e = (let same = given_kept s h n e live in same ∙ prior (ap is_some (sym same) ∙ live))
-    next (Some t) e = given_here s h n t can e
-
--- an older label counts where there is no newer one
-pub newer : {X : Type 0} (f : X → List ℕ) (a b : Option X) → option_map f (option_or a b) ≡ option_or (option_map f a) (option_map f b)
-newer f None b = refl
-newer f (Some x) b = refl
+-- ---- a label that is kept
 
 kept_option : (c : List Step) (g : Graph) (o : Option (List ℕ)) (l : ℕ) → option_and_then (λ t. position (bytes_eq t) g.seen) o ≡ Some l → option_and_then (λ t. position (bytes_eq t) (after c g).seen) o ≡ Some l
 kept_option c g None l e = cc

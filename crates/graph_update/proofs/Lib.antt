@@ -1,9 +1,9 @@
 pub mod LabelLaws
+pub mod LabelsAhead
 pub mod Mapped
 pub mod PendingLaws
 pub mod ShownLaws
 pub mod NamedParts
-pub mod GivenLabels
 mod StagedSteps
 mod DroppedEdges
 mod PlannedSteps

@@ -1,11 +1,11 @@
 -- What holds of a graph and a change that is to be made in it.
-use Rattle.std.proofs.Common.{◌≡◌, ℕ, ◌+◌, ◌≤◌, ◌^◌, true, false, List, length, ap, ◌∙◌, arith, inl, inr}
+use Rattle.std.proofs.Common.{◌≡◌, ℕ, ◌+◌, ◌≤◌, ◌^◌, true, false, List, length, sym, ap, ◌∙◌, arith, inl, inr, true≢false}
 use Rattle.std.specs.Prelude.{not, ◌&&◌, ◌||◌, if◌then◌else◌}
 use Rattle.std.specs.FinSet as set
 use Rattle.std.proofs.Math.Bool.{and-false}
 use Rattle.graph_spec.specs.Graphs.{Graph, IsGraph, is_live, has_edge}
 use Rattle.graph_spec.specs.Changes.{with_edge}
-use Rattle.std.proofs.lemmas.Bool.{cases_Bool}
+use Rattle.std.proofs.lemmas.Bool.{cases_Bool, and_from}
 use Rattle.graph_steps.proofs.GrownCounts.{edges_same, edges_more}
 use Rattle.change_spec.specs.Steps.{Step, after}
 use Rattle.change_spec.specs.Places.{CanMakeAll}
@@ -39,4 +39,11 @@ pub linked_len : (h : Graph) (u v : ℕ) → set.len (with_edge h u v).edges ≡
 linked_len h u v = elim (cases_Bool (has_edge h u v)) [
   | inl on ↦ rw on (let e = ap set.len (edges_same h.edges (u, v) on) in omega (arith, e))
   | inr off ↦ rw off (edges_more h.edges (u, v) off)
+]
+
+-- an edge joins live nodes
+pub dead_edge : (g : Graph) (u v : ℕ) → IsGraph g → (is_live g u && is_live g v) ≡ false → has_edge g u v ≡ false
+dead_edge g u v s h = elim (cases_Bool (has_edge g u v)) [
+  | inr off ↦ off
+  | inl on ↦ absurd (true≢false (sym (and_from (is_live g u) (is_live g v) (s.from u v on) (s.onto u v on)) ∙ h))
 ]

@@ -14,7 +14,6 @@ use Rattle.graph_spec.specs.Graphs.{Graph, IsGraph, has_edge, is_live, empty_gra
 use Rattle.bisim_spec.proofs.BelowLaws.{bit_of}
 use Rattle.change_spec.specs.Steps.{Step, after}
 use Rattle.change_spec.specs.Counts.{tally}
-use Rattle.change_spec.specs.Shown.{edge_after, edge_by}
 use Rattle.change_spec.specs.Named.{is_named, is_dropped}
 use Rattle.change_spec.proofs.NamedNodes.{given_all, unnamed_parent, unnamed_child, unnamed_bare}
 use Rattle.change_spec.proofs.ShownNeighbours.{unconcerned, edge_all, edge_parts, new_parents_are, new_children_are, shown_parents_list, shown_children_list}
@@ -70,10 +69,6 @@ unnamed_new Parents c n h = (unnamed_bare c n h).0
 unnamed_new Children c n h = (unnamed_bare c n h).1
 
 -- ---- one more step, and one more neighbour
-
-pub edge_joined : (xs ys : List Step) (p n : ℕ) (b : Bool) → edge_after (xs ++ ys) p n b ≡ edge_after ys p n (edge_after xs p n b)
-edge_joined [] ys p n b = refl
-edge_joined (x ∷ xs) ys p n b = edge_joined xs ys p n (edge_by x p n b)
 
 abbrev pub one_for : Bool → ℕ
 one_for b = if b then 1 else 0

@@ -1,15 +1,7 @@
--- The steps among which are all that name a node.
-use Rattle.std.specs.Prelude.{◌≡◌, ◌<◌, ◌≤◌, ℕ, false, List, ◌++◌, length, drop}
+-- The steps that are still to be read for the neighbours of a node.
+use Rattle.std.specs.Prelude.{◌≡◌, ◌<◌, ◌≤◌, ℕ, false, List, length, drop}
 use Rattle.change_spec.specs.Steps.{Step}
 use Rattle.change_spec.specs.Named.{is_named, is_dropped}
-
--- the part of the steps in front of which, and behind which, none names the node
-pub record AreNaming (n : ℕ) (c part : List Step) : Type 0 where
-  pub before : List Step
-  pub behind : List Step
-  pub whole : c ≡ before ++ (part ++ behind)
-  pub unnamed : is_named before n ≡ false
-  pub over : is_named behind n ≡ false
 
 -- the steps from one place on are still to be read, and none behind another names the node, which stays where there is one
 pub record AreLeft (c : List Step) (n from past : ℕ) : Type 0 where

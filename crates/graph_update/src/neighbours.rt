@@ -1,35 +1,25 @@
 // The neighbours of a node in a graph that is shown.
-ghost use Rattle.std.specs.Prelude.{◌≡◌, ◌<◌, ◌≤◌, ◌||◌, ◌&&◌, not, ◌∷◌, ◌+◌, ◌-◌, nat_eq, [], IfSome, IfNone, Some, None, Option, false, length, take, drop, if◌then◌else◌};
+ghost use Rattle.std.specs.Prelude.{◌≡◌, ◌<◌, ◌≤◌, ◌||◌, ◌&&◌, ◌∷◌, ◌+◌, ◌-◌, nat_eq, [], IfSome, IfNone, Some, None, Option, false, length, drop, if◌then◌else◌};
 ghost use Rattle.std.specs.List.{list_any};
-ghost use Rattle.change_spec.specs.Shown.{concerns as concerning, concerned as concerned_by, edge_by, edge_after as after_steps};
+ghost use Rattle.change_spec.specs.Shown.{concerns as concerning, concerned as concerned_by};
 ghost use Rattle.change_spec.specs.Named.{is_dropped};
 ghost use Rattle.change_spec.specs.Counts.{tally};
 ghost use Rattle.graph_steps.specs.StepLists.{step_of, steps_of};
-ghost use Rattle.graph_update.specs.NamedSteps.{AreNaming, AreLeft};
+ghost use Rattle.graph_steps.specs.NamedSteps.{AreNaming};
+ghost use Rattle.graph_update.specs.NamedSteps.{AreLeft};
 ghost use Rattle.graph_update.specs.ShownNeighbours.{concerned_at as concerned_on, other_end, linked_at, unless_later, with_first, new_at, kept_at, shown_at, comes_at, IsFirstKept, IsFirstAdded, AreShown};
 
 use bisim_spec::Side;
-use graph_steps::{Change, Step};
+use graph_steps::{Change, Step, edge_behind};
 use px_base::NodeId;
 use std::marker::Model;
-
-// The steps from one place on, and before another.
-fn between(steps: &[Step], first: usize, past: usize) -> &[Step]
-    requires order { first ≤ past }
-    requires within { past ≤ length steps.now }
-    ensures { steps_of result.now ≡ take (past - first) (drop first (steps_of steps.now)) }
-{
-    &steps[first..past]
-}
 
 /// Of the steps from a place on, those from the first to the last that names a node.
 pub(crate) fn naming(change: &Change, from: usize, n: NodeId) -> &[Step]
     requires { from ≤ length change.now }
     ensures { AreNaming n (drop from change.now) (steps_of result.now) }
 {
-    let span = change.span(n);
-    let first = span.first.max(from);
-    between(change.steps(), first, span.past.max(first))
+    change.whole().naming(from, n)
 }
 
 // Whether both are those.
@@ -153,7 +143,7 @@ fn step_at(change: &Change, i: usize) -> &Step
     requires { i < length change.now }
     ensures { drop i change.now ≡ step_of result.now ∷ drop (i + 1) change.now }
 {
-    &change.steps()[i]
+    change.whole().step(i)
 }
 
 // The neighbour, unless a step from a place on concerns its edge.
@@ -210,36 +200,13 @@ fn first_added(
     None
 }
 
-// Whether the edge is there behind the step, where it was or wasn't.
-fn edge_behind(present: bool, step: &Step, p: NodeId, n: NodeId) -> bool
-    ensures { result ≡ edge_by (step_of step.now) p n present }
-{
-    match step {
-        Step::Link(u, v) => is_pair(p, n, *u, *v) || present,
-        Step::Unlink(u, v) => !is_pair(p, n, *u, *v) && present,
-        Step::Drop(u) => present && !is_end(p, n, *u),
-        _ => present,
-    }
-}
-
-// Whether an edge that isn't there before comes with the steps.
-fn brought(steps: &[Step], p: NodeId, n: NodeId) -> bool
-    ensures { result ≡ after_steps (steps_of steps.now) p n false }
-{
-    let mut present = false;
-    for i in 0..steps.len() {
-        present = edge_behind(present, &steps[i], p, n);
-    }
-    present
-}
-
-// The same of the edge that joins a node to its neighbour.
+// Whether an edge that joins a node to its neighbour, and isn't there before, comes with the steps.
 fn brought_at(steps: &[Step], side: Side, n: NodeId, m: NodeId) -> bool
     ensures { result ≡ comes_at side (steps_of steps.now) n m }
 {
     match side {
-        Side::Parents => brought(steps, m, n),
-        Side::Children => brought(steps, n, m),
+        Side::Parents => edge_behind(steps, m, n, false),
+        Side::Children => edge_behind(steps, n, m, false),
     }
 }
 

@@ -1,23 +1,24 @@
 // A graph as a change will leave it.
-ghost use Rattle.std.specs.Prelude.{◌≡◌, ◌<◌, ◌≤◌, ◌+◌, ◌-◌, ◌^◌, ◌||◌, ◌&&◌, not, ℕ, true, false, length, IsTrue, IfSome, IfNone, List, ◌∷◌, Some, None, slice_get, position, bytes_eq, if◌then◌else◌, option_map};
+ghost use Rattle.std.specs.Prelude.{◌≡◌, ◌<◌, ◌≤◌, ◌+◌, ◌-◌, ◌^◌, ◌||◌, ◌&&◌, not, ℕ, true, false, length, take, IsTrue, IfSome, Some, slice_get, position, bytes_eq, if◌then◌else◌, option_map};
 ghost use Rattle.std.specs.Option.{option_or};
 ghost use Rattle.std.specs.FinSet as set;
 ghost use Rattle.graph_spec.specs.Graphs.{Graph as Seen, IsGraph, is_live, label_of, has_edge, is_seen};
 ghost use Rattle.graph_spec.specs.Changes.{with_label};
 ghost use Rattle.graph_spec.specs.Members.{Lists};
 ghost use Rattle.label_graph.specs.GraphViews.{label_number, edge_count};
+ghost use Rattle.label_graph.specs.LabelTable.{entries};
 ghost use Rattle.change_spec.specs.Lost.{lost_onto, lost_from};
 ghost use Rattle.change_spec.specs.Steps.{made, after};
 ghost use Rattle.change_spec.specs.Places.{CanMake, CanMakeAll};
-ghost use Rattle.change_spec.specs.Named.{takes_away, is_named, is_dropped};
+ghost use Rattle.change_spec.specs.Named.{takes_away, is_dropped};
 ghost use Rattle.graph_steps.specs.StepLists.{step_of, steps_of};
 ghost use Rattle.graph_steps.specs.NewChanges.{IsNew};
 ghost use Rattle.graph_update.specs.ShownNeighbours.{joins};
-ghost use Rattle.graph_update.specs.PendingChanges.{graph_after, lost_at, is_added, given_by, relabel_by, relabelled};
+ghost use Rattle.graph_update.specs.PendingChanges.{graph_after, lost_at, is_added, AreAhead, IsShownPast};
 
-use crate::neighbours::{Neighbours, fresh_count, naming};
+use crate::neighbours::{Neighbours, fresh_count};
 use bisim_spec::Side;
-use graph_steps::{Change, Step, edges_at, has_edge, is_dropped, is_seen};
+use graph_steps::{Change, Front, Step, edge_after, edges_at, given_label, has_edge, is_seen};
 use label_graph::{Graph, Labels};
 use px_base::{NodeId, Steps, Text};
 use std::marker::Model;
@@ -39,6 +40,7 @@ pub struct After<'a> {
     change: &'a Change,
     created: u32,
     drops: bool,
+    ahead: bool,
 }
 
 impl<'a> Model for After<'a> {
@@ -50,11 +52,12 @@ impl<'a> Model for After<'a> {
 
     ghost view = { λ a. record { before = a.graph.now.graph; change = a.change.now } };
 
-    ghost invariant = { λ a. IsPending a.change.now a.graph.now.graph a.labels.now.texts a.created a.drops };
+    ghost invariant = { λ a. IsPending a.change.now a.graph.now.graph a.labels.now a.created a.drops a.ahead };
 }
 
 impl<'a> After<'a> {
-    /// The graph after a change that `judge` accepts as new within some limits. O(s) for s steps, no memory.
+    /// The graph after a change that `judge` accepts as new within some limits. Expected O(s + b) for s steps with labels of b
+    /// bytes together; no memory.
     pub fn new(graph: &'a Graph, change: &'a Change) -> After<'a>
         requires new { IsNew change.now graph.now.graph }
         ensures pending { result ≡ record { before = graph.now.graph; change = change.now } }
@@ -62,13 +65,14 @@ impl<'a> After<'a> {
         ensures before { IsGraph result.before }
         ensures after { IsGraph (graph_after result) }
     {
-        let steps = change.steps();
+        let labels = graph.labels();
         After {
             graph,
-            labels: graph.labels(),
+            labels,
             change,
-            created: created_after(graph, steps),
-            drops: any_drops(steps),
+            created: created_after(graph, change),
+            drops: any_drops(change.steps()),
+            ahead: are_ahead(labels, change),
         }
     }
 
@@ -82,9 +86,9 @@ impl<'a> After<'a> {
     }
 
     /// The number of a live node's label. Labels that are not seen yet have the next numbers, in the order of the steps
-    /// that bring them. Expected O(1), and the steps from the first to the last that names the node are gone through, but
-    /// all s of them for a node that one of them adds; where a step gives it a label of b bytes, expected O(b) more, and
-    /// where that isn't seen yet s look-ups of labels and at most s^2 / 2 comparisons of them; no memory.
+    /// that bring them. Expected O(1), and the steps from the first to the last that names the node are gone through; where
+    /// a step gives it a label of b bytes, expected O(b) more. Where that isn't seen yet, and the graph isn't staged for the
+    /// change either, it takes s look-ups of labels and at most s^2 / 2 comparisons of them for s steps; no memory.
     pub fn label(&self, n: NodeId) -> u32
         requires live { IsTrue (is_live (graph_after self.now) n) }
         ensures text { slice_get (graph_after self.now).seen result ≡ label_of (graph_after self.now) n }
@@ -93,21 +97,40 @@ impl<'a> After<'a> {
         // Called for its contract: numbers of labels fit.
         let _known = self.labels.len();
         match self.given_label(n) {
-            Some(label) => added_number(self.graph, self.change.steps(), label),
+            Some(label) => self.number_of(label),
             None => self.graph.label(n),
         }
     }
 
-    // The label that a step gives the node, the last one where several do. All steps are looked through only where one
-    // adds the node.
+    // The number that a label will have.
+    fn number_of(&self, label: &Text) -> u32
+        requires seen { is_seen (graph_after self.now).seen label.now ≡ true }
+        requires few { length (graph_after self.now).seen < 2 ^ 32 }
+        ensures { position (bytes_eq label.now) (graph_after self.now).seen ≡ Some result }
+    {
+        match self.entry_of(label) {
+            Some(number) => number,
+            None => added_number(self.graph, self.change.steps(), label),
+        }
+    }
+
+    // The same by the graph's table, where the labels to come lie ahead there.
+    fn entry_of(&self, label: &Text) -> Option<u32>
+        requires { is_seen (graph_after self.now).seen label.now ≡ true }
+        ensures { IfSome result (λ n. position (bytes_eq label.now) (graph_after self.now).seen ≡ Some n) }
+    {
+        if self.ahead {
+            return self.labels.entry(label);
+        }
+        None
+    }
+
+    // The label that a step gives the node, the last one where several do.
     fn given_label(&self, n: NodeId) -> Option<&Text>
         requires live { IsTrue (is_live (graph_after self.now) n) }
         ensures { label_of (graph_after self.now) n ≡ option_or (option_map (λ t. t.now) result) (label_of self.now.before n) }
     {
-        if n < self.graph.created() {
-            return relabelled(naming(self.change, 0, n), n);
-        }
-        given_label(self.graph, self.change.steps(), n)
+        given_label(self.graph, &self.change.whole(), n)
     }
 
     /// How many node numbers will have been allocated: at most 2^30. O(1), no memory.
@@ -124,13 +147,14 @@ impl<'a> After<'a> {
         self.created
     }
 
-    /// How many edges there will be: at most 2^30. O(s^2) for s steps, and what it takes to look up an edge of the graph
-    /// for each of them; no memory.
+    /// How many edges there will be: at most 2^30. Expected O(s) for s steps, and for each of them what it takes to look up
+    /// an edge of the graph, and the steps before it that name its nodes, from the first to the last; where it takes a node
+    /// away, O(s) more, and more for each that names this node; no memory.
     pub fn edge_count(&self) -> u32
         ensures count { result ≡ edge_count (graph_after self.now) }
         ensures few { result ≤ 2 ^ 30 }
     {
-        edges_after(self.graph, self.change.steps())
+        edges_after(self.graph, self.change, self.change.steps())
     }
 
     /// The nodes from which an edge leads to this one, each once, in no stated order; none where the number isn't that
@@ -153,6 +177,26 @@ impl<'a> After<'a> {
         ensures cost { steps.new ≡ steps.old + 1 + length result + lost_from self.now.before (graph_after self.now) n }
     {
         self.neighbours(self.graph.children(n, steps), Side::Children, n, steps)
+    }
+
+    /// Whether an edge will lead from the first node to the second, where one does so already or doesn't. Expected O(1);
+    /// the steps from the first to the last that names an end are gone through, for the end where these are fewer, and
+    /// where steps take nodes away for both; no memory.
+    pub fn edge_after(&self, u: NodeId, v: NodeId, present: bool) -> bool
+        requires { present ≡ has_edge self.now.before u v }
+        ensures { result ≡ has_edge (graph_after self.now) u v }
+    {
+        if self.are_live(u, v) {
+            return edge_after(&self.change.whole(), u, v, present);
+        }
+        false
+    }
+
+    // Whether both numbers are those of live nodes.
+    fn are_live(&self, u: NodeId, v: NodeId) -> bool
+        ensures { result ≡ (is_live (graph_after self.now) u && is_live (graph_after self.now) v) }
+    {
+        self.is_live(u) && self.is_live(v)
     }
 
     // The neighbours that a node will have, where it has these, which were read.
@@ -188,15 +232,15 @@ impl<'a> After<'a> {
     fn is_dropped(&self, n: NodeId) -> bool
         ensures { result ≡ is_dropped self.now.change n }
     {
-        self.drops && goes(self.change, n)
+        self.drops && drops(self.change, n)
     }
 }
 
-// Whether a step takes the node away. It is one that names the node.
-fn goes(change: &Change, n: NodeId) -> bool
+// Whether a step takes the node away.
+fn drops(change: &Change, n: NodeId) -> bool
     ensures { result ≡ is_dropped change.now n }
 {
-    is_dropped(naming(change, 0, n), n)
+    change.whole().is_dropped(n)
 }
 
 fn either(a: bool, b: bool) -> bool
@@ -211,29 +255,13 @@ fn is_left(there: bool, gone: bool) -> bool
     there && !gone
 }
 
-// How many numbers are allocated once a step is made.
-fn created_by(created: u32, step: &Step) -> u32
-    requires few { created < 2 ^ 31 }
-    ensures created { (h : Seen) → created ≡ length h.allocated → result ≡ length (made (step_of step.now) h).allocated }
-    ensures most { result ≤ created + 1 }
-{
-    match step {
-        Step::Node(_) => created + 1,
-        _ => created,
-    }
-}
-
-// The same once all steps are made.
-fn created_after(graph: &Graph, steps: &[Step]) -> u32
-    requires few { length steps.now ≤ 1024 }
-    ensures created { result ≡ length (after (steps_of steps.now) graph.now.graph).allocated }
+// How many numbers are allocated once all steps are made.
+fn created_after(graph: &Graph, change: &Change) -> u32
+    requires few { length change.now ≤ 1024 }
+    ensures created { result ≡ length (after change.now graph.now.graph).allocated }
     ensures before { length graph.now.graph.allocated ≤ 2 ^ 30 }
 {
-    let mut created = graph.created();
-    for i in 0..steps.len() {
-        created = created_by(created, &steps[i]);
-    }
-    created
+    graph.created() + change.added() as u32
 }
 
 fn is_drop(step: &Step) -> bool
@@ -257,13 +285,13 @@ fn any_drops(steps: &[Step]) -> bool
 }
 
 // How many edges there are once the next step is made.
-fn edges_by(graph: &Graph, front: &[Step], step: &Step, edges: u32) -> u32
+fn edges_by(graph: &Graph, front: &Front<'_>, step: &Step, edges: u32) -> u32
     requires few { length front.now ≤ 1024 }
     requires few_edges { edges < 2 ^ 31 }
-    requires can { CanMakeAll (steps_of front.now) graph.now.graph }
-    requires can_step { CanMake (step_of step.now) (after (steps_of front.now) graph.now.graph) }
-    requires edges { edges ≡ set.len (after (steps_of front.now) graph.now.graph).edges }
-    ensures edges { result ≡ set.len (made (step_of step.now) (after (steps_of front.now) graph.now.graph)).edges }
+    requires can { CanMakeAll front.now graph.now.graph }
+    requires can_step { CanMake (step_of step.now) (after front.now graph.now.graph) }
+    requires edges { edges ≡ set.len (after front.now graph.now.graph).edges }
+    ensures edges { result ≡ set.len (made (step_of step.now) (after front.now graph.now.graph)).edges }
     ensures most { result ≤ edges + 1 }
 {
     match step {
@@ -275,7 +303,8 @@ fn edges_by(graph: &Graph, front: &[Step], step: &Step, edges: u32) -> u32
 }
 
 // How many there are once all steps are made.
-fn edges_after(graph: &Graph, steps: &[Step]) -> u32
+fn edges_after(graph: &Graph, change: &Change, steps: &[Step]) -> u32
+    requires same { steps_of steps.now ≡ change.now }
     requires few { length steps.now ≤ 1024 }
     requires can { CanMakeAll (steps_of steps.now) graph.now.graph }
     ensures edges { result ≡ set.len (after (steps_of steps.now) graph.now.graph).edges }
@@ -283,7 +312,7 @@ fn edges_after(graph: &Graph, steps: &[Step]) -> u32
 {
     let mut edges = graph.edge_count();
     for i in 0..steps.len() {
-        edges = edges_by(graph, &steps[..i], &steps[i], edges);
+        edges = edges_by(graph, &change.front(i), &steps[i], edges);
     }
     edges
 }
@@ -301,60 +330,68 @@ fn one_if(b: bool) -> u32
     if b { 1 } else { 0 }
 }
 
-// The label, where it is asked for.
-fn label_if(wanted: bool, label: &Text) -> Option<&Text>
-    ensures { option_map (λ t. t.now) result ≡ (if wanted then Some label.now else None) }
+// ---- labels that lie ahead
+
+// How many of the entries are labels once the text is one, where so many were; none where it is ahead behind others.
+fn shown_with(labels: &Labels, text: &Text, shown: u32) -> Option<u32>
+    ensures { IfSome result (λ n. with_label (take shown (entries labels.now)) text.now ≡ take n (entries labels.now)) }
 {
-    if wanted { Some(label) } else { None }
+    match labels.entry(text) {
+        Some(number) => shown_past(number, shown),
+        None => None,
+    }
 }
 
-// The label that the step gives a node by its number.
-fn relabel_by(step: &Step, n: NodeId) -> Option<&Text>
-    ensures { option_map (λ t. t.now) result ≡ relabel_by (step_of step.now) n }
+// The same of the entry with this number.
+fn shown_past(number: u32, shown: u32) -> Option<u32>
+    ensures { IfSome result (λ n. IsShownPast number shown n) }
+{
+    if number < shown {
+        return Some(shown);
+    }
+    if number == shown {
+        return shown.checked_add(1);
+    }
+    None
+}
+
+// The same once a step is made.
+fn shown_by(labels: &Labels, step: &Step, shown: u32) -> Option<u32>
+    ensures { IfSome result (λ n. (h : Seen) → h.seen ≡ take shown (entries labels.now)
+        → (made (step_of step.now) h).seen ≡ take n (entries labels.now)) }
 {
     match step {
-        Step::Relabel(node, label) => label_if(n == *node, label),
-        _ => None,
+        Step::Node(text) => shown_with(labels, text, shown),
+        Step::Relabel(_, text) => shown_with(labels, text, shown),
+        _ => Some(shown),
     }
 }
 
-// The label that the last of the steps gives a node by its number.
-fn relabelled(steps: &[Step], n: NodeId) -> Option<&Text>
-    ensures { option_map (λ t. t.now) result ≡ relabelled (steps_of steps.now) n }
+// Whether the labels that steps bring lie ahead, in the order in which they come.
+fn each_ahead(labels: &Labels, steps: &[Step]) -> bool
+    ensures { result ≡ true → (g : Seen) → labels.now.texts ≡ g.seen → AreAhead (steps_of steps.now) g labels.now }
 {
-    let mut given = None;
+    let mut shown = labels.len();
     for i in 0..steps.len() {
-        given = relabel_by(&steps[i], n).or(given);
+        match shown_by(labels, &steps[i], shown) {
+            Some(more) => shown = more,
+            None => return false,
+        }
     }
-    given
+    true
 }
 
-// The label that the step gives a node, where so many numbers are allocated before it.
-fn label_by(step: &Step, next: u32, n: NodeId) -> Option<&Text>
-    ensures { option_map (λ t. t.now) result ≡ given_by (step_of step.now) next n }
+// The same of a change: so they do once the graph is staged for it. A single step isn't asked.
+fn are_ahead(labels: &Labels, change: &Change) -> bool
+    ensures { result ≡ true → (g : Seen) → labels.now.texts ≡ g.seen → AreAhead change.now g labels.now }
 {
-    match step {
-        Step::Node(label) => label_if(n == next, label),
-        Step::Relabel(node, label) => label_if(n == *node, label),
-        _ => None,
+    if change.steps().len() <= 1 {
+        return false;
     }
+    each_ahead(labels, change.steps())
 }
 
-// The label that steps give a node which is live behind them, the last one where several do.
-fn given_label<'a>(graph: &Graph, steps: &'a [Step], n: NodeId) -> Option<&'a Text>
-    requires few { length steps.now ≤ 1024 }
-    requires can { CanMakeAll (steps_of steps.now) graph.now.graph }
-    requires live { IsTrue (is_live (after (steps_of steps.now) graph.now.graph) n) }
-    ensures { label_of (after (steps_of steps.now) graph.now.graph) n ≡ option_or (option_map (λ t. t.now) result) (label_of graph.now.graph n) }
-{
-    let mut given = None;
-    let mut next = graph.created();
-    for i in 0..steps.len() {
-        given = label_by(&steps[i], next, n).or(given);
-        next = created_by(next, &steps[i]);
-    }
-    given
-}
+// ---- labels that are looked for among the steps
 
 // Whether the step brings the label, where it isn't seen yet.
 fn brings(step: &Step, label: &Text) -> bool

@@ -1,5 +1,5 @@
 // Making a change in two calls.
-ghost use Rattle.std.specs.Prelude.{◌≡◌, ◌<◌, ◌≤◌, ◌++◌, ◌∷◌, [], false, length, OnErr, OnOk, IfOk, IsTrue, List, ℕ};
+ghost use Rattle.std.specs.Prelude.{◌≡◌, ◌<◌, ◌++◌, ◌∷◌, [], false, OnErr, OnOk, IfOk, IsTrue, List, ℕ};
 ghost use Rattle.graph_spec.specs.Graphs.{is_live, has_edge as edge_in};
 ghost use Rattle.change_spec.specs.Steps.{Step as Value_of_step, node, link, unlink, drop, relabel, after, without_node};
 ghost use Rattle.change_spec.specs.Places.{CanMake, CanMakeAll};
@@ -8,7 +8,7 @@ ghost use Rattle.graph_steps.specs.NewChanges.{IsNew};
 ghost use Rattle.graph_steps.specs.StepLists.{step_of, steps_of};
 ghost use Rattle.graph_update.specs.StagedChanges.{IsStaged, ArePlanned, CanBeMade, IsMadeBy, LosesEdgesAt, applied_of};
 
-use graph_steps::{Change, Step, has_edge, has_label};
+use graph_steps::{Change, Front, Step, has_edge, has_label};
 use label_graph::Graph;
 use px_base::{Memory, NodeId, Steps, Text};
 use smallvec::SmallVec;
@@ -64,9 +64,9 @@ impl Model for Staged {
 }
 
 /// Takes all the memory that a change needs, which `judge` accepts as new within some limits. The graph stays as it is
-/// seen. What was reserved before is reserved no more, and if memory runs out nothing is reserved. Expected O(s^2 + b),
-/// amortized, for s steps with labels of b bytes together, and what it takes to look up an edge of the graph for each
-/// link; it takes the memory that `Graph` takes for nodes, edges and labels, that of a copy of each label that a node
+/// seen. What was reserved before is reserved no more, and if memory runs out nothing is reserved. Expected O(s + b),
+/// amortized, for s steps with labels of b bytes together, what it takes to look up an edge of the graph for each link,
+/// and the steps before a link or a relabel that name its nodes, from the first to the last; it takes the memory that `Graph` takes for nodes, edges and labels, that of a copy of each label that a node
 /// gets instead of its own, and where there are more steps than one that of a list of them.
 #[tactic(auto, using(crate::proofs::PlannedSteps::new_can))]
 pub fn stage(alloc: Global, graph: &mut Graph, change: &Change) -> Result<Staged, Memory>
@@ -77,7 +77,7 @@ pub fn stage(alloc: Global, graph: &mut Graph, change: &Change) -> Result<Staged
 {
     graph.clear_room();
     let mut plans = SmallVec::new(alloc);
-    match stage_steps(alloc, graph, change.steps(), &mut plans) {
+    match stage_steps(alloc, graph, change, change.steps(), &mut plans) {
         Ok(()) => Ok(Staged { plans }),
         Err(error) => {
             graph.clear_room();
@@ -90,10 +90,11 @@ pub fn stage(alloc: Global, graph: &mut Graph, change: &Change) -> Result<Staged
 fn stage_steps(
     alloc: Global,
     graph: &mut Graph,
+    change: &Change,
     steps: &[Step],
     plans: &mut SmallVec<Plan, 1>,
 ) -> Result<(), Memory>
-    requires few { length steps.now ≤ 1024 }
+    requires same { steps_of steps.now ≡ change.now }
     requires can { CanMakeAll (steps_of steps.now) graph.old.graph }
     requires none { graph.old.reserved ≡ none_reserved }
     requires empty { plans.old.items ≡ [] }
@@ -101,7 +102,7 @@ fn stage_steps(
     ensures staged { OnOk result (IsStaged (steps_of steps.now) graph.new plans.new.items) }
 {
     for i in 0..steps.len() {
-        stage_step(alloc, graph, &steps[..i], &steps[i], plans)?;
+        stage_step(alloc, graph, &change.front(i), &steps[i], plans)?;
     }
     Ok(())
 }
@@ -110,16 +111,15 @@ fn stage_steps(
 fn stage_step(
     alloc: Global,
     graph: &mut Graph,
-    front: &[Step],
+    front: &Front<'_>,
     step: &Step,
     plans: &mut SmallVec<Plan, 1>,
 ) -> Result<(), Memory>
-    requires few { length front.now ≤ 1024 }
-    requires front { CanMakeAll (steps_of front.now) graph.old.graph }
-    requires can { CanMake (step_of step.now) (after (steps_of front.now) graph.old.graph) }
-    requires staged { IsStaged (steps_of front.now) graph.old plans.old.items }
+    requires front { CanMakeAll front.now graph.old.graph }
+    requires can { CanMake (step_of step.now) (after front.now graph.old.graph) }
+    requires staged { IsStaged front.now graph.old plans.old.items }
     ensures graph { graph.new.graph ≡ graph.old.graph }
-    ensures staged { OnOk result (IsStaged (steps_of front.now ++ step_of step.now ∷ []) graph.new plans.new.items) }
+    ensures staged { OnOk result (IsStaged (front.now ++ step_of step.now ∷ []) graph.new plans.new.items) }
 {
     match step {
         Step::Node(label) => stage_node(alloc, graph, label, plans),
@@ -147,16 +147,16 @@ fn stage_node(
 
 fn stage_link(
     graph: &mut Graph,
-    front: &[Step],
+    front: &Front<'_>,
     from: NodeId,
     to: NodeId,
     plans: &mut SmallVec<Plan, 1>,
 ) -> Result<(), Memory>
-    requires front { CanMakeAll (steps_of front.now) graph.old.graph }
-    requires can { CanMake (link from to) (after (steps_of front.now) graph.old.graph) }
-    requires staged { IsStaged (steps_of front.now) graph.old plans.old.items }
+    requires front { CanMakeAll front.now graph.old.graph }
+    requires can { CanMake (link from to) (after front.now graph.old.graph) }
+    requires staged { IsStaged front.now graph.old plans.old.items }
     ensures graph { graph.new.graph ≡ graph.old.graph }
-    ensures staged { OnOk result (IsStaged (steps_of front.now ++ link from to ∷ []) graph.new plans.new.items) }
+    ensures staged { OnOk result (IsStaged (front.now ++ link from to ∷ []) graph.new plans.new.items) }
 {
     if has_edge(graph, front, from, to) {
         return Ok(());
@@ -190,16 +190,16 @@ fn stage_drop(graph: &Graph, node: NodeId, plans: &mut SmallVec<Plan, 1>) -> Res
 fn stage_relabel(
     alloc: Global,
     graph: &mut Graph,
-    front: &[Step],
+    front: &Front<'_>,
     node: NodeId,
     label: &Text,
     plans: &mut SmallVec<Plan, 1>,
 ) -> Result<(), Memory>
-    requires few { length front.now ≤ 1024 }
-    requires front { CanMakeAll (steps_of front.now) graph.old.graph }
-    requires staged { IsStaged (steps_of front.now) graph.old plans.old.items }
+    requires front { CanMakeAll front.now graph.old.graph }
+    requires can { CanMake (relabel node label.now) (after front.now graph.old.graph) }
+    requires staged { IsStaged front.now graph.old plans.old.items }
     ensures graph { graph.new.graph ≡ graph.old.graph }
-    ensures staged { OnOk result (IsStaged (steps_of front.now ++ relabel node label.now ∷ []) graph.new plans.new.items) }
+    ensures staged { OnOk result (IsStaged (front.now ++ relabel node label.now ∷ []) graph.new plans.new.items) }
 {
     if has_label(graph, front, node, label) {
         return Ok(());

@@ -1,6 +1,6 @@
 // Groups of steps, made in two calls.
 use super::*;
-use graph_steps::has_edge;
+use graph_steps::edge_before;
 use label_graph::Graph;
 use px_base::{Limits, NodeId, Text};
 use std::alloc::Global;
@@ -60,10 +60,10 @@ fn without_hub(alloc: Global) -> Result<Change, Fail> {
 
 fn make_groups(rt: &impl Abort, alloc: Global, graph: &mut Graph) -> Result<(), Fail> {
     assert!(rt; make(alloc, graph, &with_hub(alloc)?)? == Applied { first: 0, added: 3 });
-    assert!(rt; graph.edge_count() == 3 && has_edge(graph, &[], 2, 0));
+    assert!(rt; graph.edge_count() == 3 && edge_before(graph, 2, 0));
     assert!(rt; make(alloc, graph, &without_hub(alloc)?)? == Applied { first: 3, added: 1 });
     assert!(rt; graph.edge_count() == 2 && graph.node_count() == 3);
-    assert!(rt; has_edge(graph, &[], 3, 1) && has_edge(graph, &[], 1, 2));
+    assert!(rt; edge_before(graph, 3, 1) && edge_before(graph, 1, 2));
     Ok(())
 }
 
@@ -97,10 +97,14 @@ fn shown_labels(rt: &impl Abort, graph: &Graph, change: &Change) -> Result<(u32,
     Ok((after.label(0), after.label(1)))
 }
 
-// Labels have the numbers of their order in the change, before it is made and after.
+// Labels have the numbers of their order in the change, before it is made and after, whatever lies ahead.
 fn check_labels(rt: &impl Abort, alloc: Global, graph: &mut Graph) -> Result<(), Fail> {
     make(alloc, graph, &Change::one(alloc, node(alloc, b"a")?)?)?;
     let change = with_labels(alloc)?;
+    assert!(rt; shown_labels(rt, graph, &change)? == (2, 3));
+    stage_and_drop(alloc, graph, &change)?;
+    assert!(rt; shown_labels(rt, graph, &change)? == (2, 3));
+    stage_and_drop(alloc, graph, &with_hub(alloc)?)?;
     assert!(rt; shown_labels(rt, graph, &change)? == (2, 3));
     assert!(rt; make(alloc, graph, &change)? == Applied { first: 1, added: 1 });
     assert!(rt; graph.is_live(0) && graph.is_live(1));

@@ -4,7 +4,7 @@ use Rattle.std.specs.Prelude.{⊤, ℕ, ◌≡◌, ◌<◌, List, [], length, Op
 use Rattle.graph_spec.specs.Graphs.{Graph}
 use Rattle.graph_spec.specs.Shapes.{shape_of}
 use Rattle.bisim_spec.specs.declared.kind.Kind.{Kind}
-use Rattle.bisim_spec.specs.declared.kind.Kind.TheVariants.{A, One, Fb}
+use Rattle.bisim_spec.specs.declared.kind.Kind.TheVariants.{A, One, Fb, B}
 use Rattle.bisim_spec.specs.Bisimilarity.{Bisim}
 use Rattle.bisim_spec.specs.Partitions.{Agrees}
 use Rattle.bisim_spec.specs.IndexGraphs.{View}
@@ -39,6 +39,7 @@ BeginsFull A g o = ⊤
 BeginsFull One g None = ⊤
 BeginsFull One g (Some v) = Agrees (shape_of g) v.block_of (Bisim (shape_of g))
 BeginsFull Fb g o = ⊤
+BeginsFull B g o = ⊤
 
 -- the index is built from the graph, with levels up to k where it has levels
 pub record IsBuilt (old new : Meaning) (g : Graph) (k : ℕ) : Type 0 where
@@ -53,6 +54,7 @@ abbrev pub IsViewStep : Kind → Graph → Option View → List Step → Option 
 IsViewStep A g o c next = ⊤
 IsViewStep One g o c next = OneStep g (blocks_in o) c (after c g) (blocks_in next)
 IsViewStep Fb g o c next = ⊤
+IsViewStep B g o c next = ⊤
 
 -- these views are what a change makes of an index
 pub record AreNext (old : Meaning) (c : List Step) (g : Graph) (views : List (Option View)) : Type 0 where

@@ -23,6 +23,8 @@ pub enum Via {
     One,
     /// The forward and backward index.
     Fb,
+    /// The bounded forward and backward index of that level i, counted from 0.
+    B(u32),
 }
 
 impl Via {
@@ -36,11 +38,13 @@ impl Via {
             Via::A(level) => Some((Kind::A, level)),
             Via::One => Some((Kind::One, 0)),
             Via::Fb => Some((Kind::Fb, 0)),
+            Via::B(level) => Some((Kind::B, level)),
         }
     }
 
     /// The index at place `n`, counted from 0, in the list of all indexes with levels up to `k`: the A(i)-indexes
-    /// from level 0 up to `k`, then the 1-index, then the forward and backward index. None exactly past these. O(1), no memory.
+    /// from level 0 up to `k`, the 1-index, the forward and backward index, and then the bounded ones from level 0 up to
+    /// `k`. None exactly past these. O(1), no memory.
     pub fn nth(n: u32, k: u32) -> Option<Via>
         requires level { k ≤ 8 }
         ensures { result ≡ slice_get (all_indexes k) n }
@@ -51,6 +55,8 @@ impl Via {
             Some(Via::One)
         } else if n == k + 2 {
             Some(Via::Fb)
+        } else if n <= 2 * k + 3 {
+            Some(Via::B(n - k - 3))
         } else {
             None
         }

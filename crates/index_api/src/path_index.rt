@@ -26,9 +26,9 @@ pub trait PathIndex: Drop {
     fn kind(&self) -> Kind
         ensures { result ≡ (meaning self.now).kind };
 
-    /// Builds the index of the graph, instead of the views that there are, with nothing staged. The A(k)-family has a
-    /// view for each level up to `k`, each other index has one. That of the 1-index is full bisimilarity. The cost and
-    /// the memory are the index's: `AkFamily::build` says those of `AkIndex`, `OneIndex::build` those of `OneKept`, and
+    /// Builds the index of the graph, instead of the views that there are, with nothing staged. A family has a view for
+    /// each level up to `k`, each other index has one. That of the 1-index is full bisimilarity. The cost and the memory
+    /// are the index's: `AkFamily::build` says those of `AkIndex` and `FbkIndex`, `OneIndex::build` those of `OneKept`, and
     /// `FbIndex` its own.
     fn build(&mut self, view: &GraphView<'_>, k: u32) -> Result<(), Memory>
         requires level { k ≤ 8 }
@@ -38,7 +38,7 @@ pub trait PathIndex: Drop {
     /// Stages what a change will make of the index. The graph is as it was, and `judge` accepts the change as new
     /// within some limits. The partition of the 1-index moves by one step (Yi, He, Stanoi and Yang 2004): nodes that
     /// the change doesn't reach stay together or apart. The cost and the memory are the index's, and grow with what the
-    /// change affects: `AkIndex` and `OneKept` say theirs, and `FbIndex` takes O(1), no memory.
+    /// change affects: `AkIndex`, `FbkIndex` and `OneKept` say theirs, and `FbIndex` takes O(1), no memory.
     fn prepare(&mut self, graph: &Graph, change: &Change) -> Result<(), Memory>
         requires ready { IsReady (meaning self.old) graph.now.graph }
         requires new { IsNew change.now graph.now.graph }

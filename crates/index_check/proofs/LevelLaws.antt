@@ -8,7 +8,7 @@ use Rattle.bisim_spec.specs.Bisimilarity.{SameLabel, Bis, Both, FB, node_count}
 use Rattle.bisim_spec.specs.Partitions.{Together, IsPartition, Agrees}
 use Rattle.bisim_spec.proofs.Bisimilar.{some_of, is_some_at, both_node, both_sym}
 use Rattle.bisim_spec.proofs.Keys.{bis_from_key, key_from_bis, both_from_key, key_from_both}
-use Rattle.bisim_spec.proofs.Settled.{falls_to, both_family, fb_each}
+use Rattle.bisim_spec.proofs.Settled.{falls_to, both_family, fb_each, fb_settled}
 use Rattle.bisim_spec.proofs.Stable.{next_stable_both, stable_both_full}
 use Rattle.bisim_spec.specs.declared.sides.Side.TheVariants.{Parents, Children}
 use Rattle.index_check.specs.NeighbourSides.{is_neighbour}
@@ -136,6 +136,14 @@ settled_full s block next i shape a above d =
     } in
     stable_both_full s block shape i (next_stable_both s block shape i a same) a
 
+-- and a full level parts no more
+pub full_stays : (s : Shape) (block next : List (Option ℕ)) → IsShape s → Agrees s block (FB s) → Agrees s next (Both s (suc (node_count s))) → Determines block next
+full_stays s block next shape a above = λ u v c e f.
+    let nu = a.partition.only u (is_some_at (at block u) c e) in
+    let nv = a.partition.only v (is_some_at (at block v) c f) in
+    let t = above.grouped u v nu nv ((fb_settled s shape).within u v (a.related u v (c, e, f))) in
+    t.1 ∙ sym t.2
+
 -- so is one of as many levels as there are numbers
 pub counted_full : (s : Shape) (block : List (Option ℕ)) (i : ℕ) → IsShape s → node_count s ≤ i → Agrees s block (Both s i) → Agrees s block (FB s)
 counted_full s block i shape many a = record {
@@ -149,6 +157,9 @@ level_more s block j i e a = subst (λ k. Agrees s block (Bis s k)) e a
 
 pub level_same : (s : Shape) (block : List (Option ℕ)) (j i : ℕ) → j ≡ i → Agrees s block (Bis s j) → Agrees s block (Bis s i)
 level_same s block j i e a = subst (λ k. Agrees s block (Bis s k)) e a
+
+pub both_same : (s : Shape) (block : List (Option ℕ)) (j i : ℕ) → j ≡ i → Agrees s block (Both s j) → Agrees s block (Both s i)
+both_same s block j i e a = subst (λ k. Agrees s block (Both s k)) e a
 
 pub both_more : (s : Shape) (block : List (Option ℕ)) (j i : ℕ) → suc j ≡ i → Agrees s block (Both s (suc j)) → Agrees s block (Both s i)
 both_more s block j i e a = subst (λ k. Agrees s block (Both s k)) e a

@@ -9,3 +9,4 @@ pub mod Stable
 pub mod MergeLaws
 pub mod MinimalLaws
 pub mod Renamed
+pub mod ViaLaws

@@ -56,6 +56,14 @@ level_renamed size edge f g to back block i a = record {
   grouped = λ u v nu nv h. a.grouped u v (node_renamed size edge g f back u nu) (node_renamed size edge g f back v nv) (bis_renamed size edge g f back i u v h);
 }
 
+pub both_level_renamed : (size : ℕ) (edge : ℕ → ℕ → Bool) (f g : ℕ → Option (List ℕ)) → Renames size edge f g → Renames size edge g f → (block : List (Option ℕ)) (i : ℕ)
+    → Agrees (with_labels size edge f) block (Both (with_labels size edge f) i) → Agrees (with_labels size edge g) block (Both (with_labels size edge g) i)
+both_level_renamed size edge f g to back block i a = record {
+  partition = partition_renamed size edge f g to back block a.partition;
+  related = λ u v t. both_renamed size edge f g to i u v (a.related u v t);
+  grouped = λ u v nu nv h. a.grouped u v (node_renamed size edge g f back u nu) (node_renamed size edge g f back v nv) (both_renamed size edge g f back i u v h);
+}
+
 counts_renamed : (size : ℕ) (edge : ℕ → ℕ → Bool) (f g : ℕ → Option (List ℕ)) → Renames size edge f g → Renames size edge g f
     → node_count (with_labels size edge f) ≡ node_count (with_labels size edge g)
 counts_renamed size edge f g to back =

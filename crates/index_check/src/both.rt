@@ -45,6 +45,33 @@ fn next_both<G: Digraph>(
     Ok(next)
 }
 
+// The nodes that are bisimilar to a level, by parents and children.
+fn level_both<G: Digraph>(alloc: Global, g: &G, i: u32) -> Result<Vec<Option<u32>>, Memory>
+    ensures { IfOk result (λ l. Agrees (digraph_shape G.Digraph g.now) l.items (Both (digraph_shape G.Digraph g.now) i)) }
+{
+    let mut block = label_list(alloc, g)?;
+    for j in 0..i {
+        let next = next_both(alloc, g, &block)?;
+        block = next;
+    }
+    Ok(block)
+}
+
+/// Whether the blocks are the classes of nodes that are bisimilar to level `i` by parents and children, as in a bounded forward and
+/// backward index (Kaushik et al., SIGMOD 2002). It costs twice what `fits_level` costs.
+pub(crate) fn fits_level_both<G: Digraph>(
+    alloc: Global,
+    g: &G,
+    block: &[Option<u32>],
+    i: u32,
+) -> Result<bool, Memory>
+    requires partition { IsPartition (digraph_shape G.Digraph g.now) block.now }
+    ensures { IfOk result (λ yes. IsTrue yes ↔ Agrees (digraph_shape G.Digraph g.now) block.now (Both (digraph_shape G.Digraph g.now) i)) }
+{
+    let right = level_both(alloc, g, i)?;
+    are_same(alloc, &right, block)
+}
+
 // The level from which on no level parts more nodes.
 fn settled<G: Digraph>(alloc: Global, g: &G) -> Result<Vec<Option<u32>>, Memory>
     ensures { IfOk result (λ l. Agrees (digraph_shape G.Digraph g.now) l.items (FB (digraph_shape G.Digraph g.now))) }
@@ -61,14 +88,32 @@ fn settled<G: Digraph>(alloc: Global, g: &G) -> Result<Vec<Option<u32>>, Memory>
     Ok(block)
 }
 
+// Whether the partition into bisimilar nodes could be this one: a round by neighbours on both sides parts no block.
+fn stays<G: Digraph>(alloc: Global, g: &G, block: &[Option<u32>]) -> Result<bool, Memory>
+    requires partition { IsPartition (digraph_shape G.Digraph g.now) block.now }
+    ensures { IfOk result (λ yes. Agrees (digraph_shape G.Digraph g.now) block.now (FB (digraph_shape G.Digraph g.now)) → IsTrue yes) }
+{
+    let next = next_both(alloc, g, block)?;
+    let yes = determines(alloc, block, &next)?;
+    Ok(yes)
+}
+
 /// Whether the blocks are the classes of nodes that are fully bisimilar by parents and children, as in the forward and backward
 /// index (Kaushik et al., SIGMOD 2002). The list is as for `fits_level`. `Memory` comes only where memory runs out. Expected
 /// O(r (n + m log m) + b) for n node numbers, m edges, block numbers below b, and r levels until none parts more nodes: r is at most
-/// n; it takes the memory of `fits_level`, with the keys of two levels.
-pub fn fits_both<G: Digraph>(alloc: Global, g: &G, block: &[Option<u32>]) -> Result<bool, Memory>
+/// n, and 1 for blocks that a round parts. It takes the memory of `fits_level`, with the keys of two levels.
+pub(crate) fn fits_both<G: Digraph>(
+    alloc: Global,
+    g: &G,
+    block: &[Option<u32>],
+) -> Result<bool, Memory>
     requires partition { IsPartition (digraph_shape G.Digraph g.now) block.now }
     ensures { IfOk result (λ yes. IsTrue yes ↔ Agrees (digraph_shape G.Digraph g.now) block.now (FB (digraph_shape G.Digraph g.now))) }
 {
+    let may = stays(alloc, g, block)?;
+    if !may {
+        return Ok(false);
+    }
     let right = settled(alloc, g)?;
     are_same(alloc, &right, block)
 }

@@ -55,7 +55,7 @@ fn level<G: Digraph>(alloc: Global, g: &G, i: u32) -> Result<Vec<Option<u32>>, M
 /// node's number its block; blocks may have any numbers, and their order tells nothing. Each level is made anew from the labels.
 /// `Memory` comes only where memory runs out. Expected O(i (n + m log m) + b) for n node numbers, m edges and block numbers below
 /// b; it takes 24 bytes a number, the table of a level's keys, and 16 bytes for each number below b.
-pub fn fits_level<G: Digraph>(
+pub(crate) fn fits_level<G: Digraph>(
     alloc: Global,
     g: &G,
     block: &[Option<u32>],

@@ -1,9 +1,10 @@
-//! Whether a list of blocks is a partition of a graph into nodes that are bisimilar, or one that is stable or minimal. The code
-//! that makes partitions has no part in it.
+//! Whether the views of an index file are what they claim: each is checked against the graph in the file. The code that makes
+//! partitions has no part in it.
 #![tactic(auto)]
 
 mod both;
 mod comparing;
+mod fitting;
 mod keys;
 mod levels;
 mod merging;
@@ -13,7 +14,4 @@ mod outer;
 mod refining;
 mod stability;
 
-pub use both::fits_both;
-pub use levels::fits_level;
-pub use minimal::is_minimal;
-pub use stability::is_stable;
+pub use fitting::fits;

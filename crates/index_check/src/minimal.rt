@@ -19,7 +19,11 @@ use std::alloc::Global;
 /// The list is as for `fits_level`. `Memory` comes only where memory runs out. Expected O(n + m log m + b) for n node numbers, m
 /// edges and block numbers below b, and O(d log d) for each edge between two blocks of one label, where d is how many parents its
 /// ends have; it takes 32 bytes a number, the tables of keys, and 16 bytes for each number below b.
-pub fn is_minimal<G: Digraph>(alloc: Global, g: &G, block: &[Option<u32>]) -> Result<bool, Memory>
+pub(crate) fn is_minimal<G: Digraph>(
+    alloc: Global,
+    g: &G,
+    block: &[Option<u32>],
+) -> Result<bool, Memory>
     requires stable { Stable (digraph_shape G.Digraph g.now) block.now }
     ensures { IfOk result (λ yes. IsTrue yes ↔ Minimal (digraph_shape G.Digraph g.now) block.now) }
 {

@@ -15,7 +15,11 @@ use std::alloc::Global;
 /// Whether the partition is stable: nodes of one block have one label, and parents in the same blocks (Milo and Suciu, ICDT 1999).
 /// The list is as for `fits_level`. `Memory` comes only where memory runs out. Expected O(n + m log m + b) for n node numbers, m edges
 /// and block numbers below b; it takes 16 bytes a number, the table of keys, and 16 bytes for each number below b.
-pub fn is_stable<G: Digraph>(alloc: Global, g: &G, block: &[Option<u32>]) -> Result<bool, Memory>
+pub(crate) fn is_stable<G: Digraph>(
+    alloc: Global,
+    g: &G,
+    block: &[Option<u32>],
+) -> Result<bool, Memory>
     requires partition { IsPartition (digraph_shape G.Digraph g.now) block.now }
     ensures { IfOk result (λ yes. IsTrue yes ↔ Stable (digraph_shape G.Digraph g.now) block.now) }
 {

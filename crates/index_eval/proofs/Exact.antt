@@ -5,18 +5,23 @@ use Rattle.graph_spec.specs.Shapes.{Shape, IsNode, IsShape, shape_of}
 use Rattle.graph_spec.specs.Members.{at}
 use Rattle.graph_spec.proofs.GraphLaws.{is_shape}
 use Rattle.path_spec.specs.Trees.{Expr}
-use Rattle.bisim_spec.specs.Bisimilarity.{Bis}
+use Rattle.bisim_spec.specs.declared.sides.Sides.{Sides}
+use Rattle.bisim_spec.specs.declared.sides.Sides.TheVariants as sides
+use Rattle.bisim_spec.specs.Bisimilarity.{Bis, Both}
+use Rattle.bisim_spec.specs.SidedLevels.{AtLevel}
 use Rattle.bisim_spec.specs.Partitions.{Together, IsPartition, Agrees}
 use Rattle.bisim_spec.specs.Stability.{Stable, StableBoth}
 use Rattle.bisim_spec.specs.Tests.{together}
 use Rattle.bisim_spec.specs.IndexGraphs.{View, ViewFits, shape_of_view}
-use Rattle.bisim_spec.proofs.Bisimilar.{some_of, bis_self}
+use Rattle.bisim_spec.proofs.Bisimilar.{some_of, both_bis}
+use Rattle.bisim_spec.proofs.LevelSides.{level_family}
 use Rattle.bisim_spec.proofs.Stable.{stable_label, stable_parents, stable_bisimulation, fb_stable}
 use Rattle.bisim_spec.proofs.StabilityTests.{together_decides}
 use Rattle.bisim_spec.proofs.Together.{together_sym, together_trans}
 use Rattle.index_api.specs.declared.kinds.Via.{Via}
-use Rattle.index_api.specs.declared.kinds.Via.TheVariants.{Data, A, One, Fb}
+use Rattle.index_api.specs.declared.kinds.Via.TheVariants.{Data, A, One, Fb, B}
 use Rattle.branch_spec.specs.Trees.{Branch}
+use Rattle.branch_spec.specs.Depths.{depth, IsUpTo}
 use Rattle.branch_spec.proofs.AnswersAgree.{Follows}
 use Rattle.branch_query.specs.Queries.{Query, path, branch, IsQueryAnswer, AreQueryAnswers}
 use Rattle.branch_query.specs.Candidates.{loose, AreCandidates}
@@ -24,6 +29,7 @@ use Rattle.index_eval.specs.Exactness.{IsExact, HasLongestWithin, FitsVia}
 use Rattle.index_eval.specs.Extents.{AreOfBlocks}
 use Rattle.index_eval.proofs.LooseWalks.{IsLoose, loose_is, path_kept, level_back, bisimilar_back}
 use Rattle.index_eval.proofs.LooseBranches.{branch_there, branch_back}
+use Rattle.index_eval.proofs.LooseLevels.{shallow_there, shallow_back}
 use Rattle.index_eval.proofs.BlockAnswers.{are_candidates, agrees_together}
 
 -- the loose graph of a partition into the classes of a relation is that of the relation
@@ -51,6 +57,11 @@ query_answers : (s : Shape) (r : ℕ → ℕ → Bool) (q : Query) (nodes : List
     → ((v : ℕ) → IsQueryAnswer (loose s r) q v → IsQueryAnswer s q v) → AreCandidates s r q true nodes → AreQueryAnswers s q nodes
 query_answers s r q nodes there back h = record { rising = h.rising; sound = λ v m. back v (h.sound v m); complete = λ v a. h.complete v (there v a) }
 
+-- nodes that are bisimilar by the sides that count are so by their parents
+by_parents : (which : Sides) (s : Shape) (i u v : ℕ) → AtLevel which s i u v → Bis s i u v
+by_parents sides.Parents s i u v h = h
+by_parents sides.Both s i u v h = both_bis s i u v h
+
 module _ (g : Graph) (is_graph : IsGraph g) (v : View) (fits : ViewFits g v) (nodes : List ℕ) where
   abbrev s : Shape
   s = shape_of g
@@ -59,13 +70,23 @@ module _ (g : Graph) (is_graph : IsGraph g) (v : View) (fits : ViewFits g v) (no
   candidates_of p q h = are_candidates g is_graph v fits (together v.block_of) (agrees_together s v.block_of p) q true nodes h
 
   -- through a partition by a level, where no word is longer than the level allows
-  level_exact : (i : ℕ) → Agrees s v.block_of (Bis s i) → (e : Expr) → HasLongestWithin e (i + 1)
+  level_exact : (which : Sides) (i : ℕ) → Agrees s v.block_of (AtLevel which s i) → (e : Expr) → HasLongestWithin e (i + 1)
       → AreOfBlocks v.block_of (IsQueryAnswer (shape_of_view g.seen v) (path e)) nodes → AreQueryAnswers s (path e) nodes
-  level_exact i a e within h =
+  level_exact which i a e within h =
       let shape = is_shape g is_graph in
-      let is_loose = blocks_loose s shape v.block_of (Bis s i) a in
-      query_answers s (together v.block_of) (path e) nodes (path_kept s (loose s (together v.block_of)) shape (Bis s i) is_loose (bis_self s shape i) e)
-      (level_back s (loose s (together v.block_of)) shape i is_loose e within) (candidates_of a.partition (path e) h)
+      let is_loose = blocks_loose s shape v.block_of (AtLevel which s i) a in
+      query_answers s (together v.block_of) (path e) nodes
+      (path_kept s (loose s (together v.block_of)) shape (AtLevel which s i) is_loose ((level_family which s shape).self i) e)
+      (level_back s (loose s (together v.block_of)) shape i (AtLevel which s i) is_loose (by_parents which s i) e within) (candidates_of a.partition (path e) h)
+
+  -- a branching query through one by parents and children, where it looks no further than the level allows
+  shallow_exact : (i : ℕ) → Agrees s v.block_of (Both s i) → (q : Branch) → IsUpTo (depth q) i
+      → AreOfBlocks v.block_of (IsQueryAnswer (shape_of_view g.seen v) (branch q)) nodes → AreQueryAnswers s (branch q) nodes
+  shallow_exact i a q within h =
+      let shape = is_shape g is_graph in
+      let is_loose = blocks_loose s shape v.block_of (Both s i) a in
+      query_answers s (together v.block_of) (branch q) nodes (shallow_there s (loose s (together v.block_of)) shape i is_loose q within)
+      (shallow_back s (loose s (together v.block_of)) shape i is_loose q within) (candidates_of a.partition (branch q) h)
 
   -- through a stable partition
   stable_exact : Stable s v.block_of → (e : Expr) → AreOfBlocks v.block_of (IsQueryAnswer (shape_of_view g.seen v) (path e)) nodes → AreQueryAnswers s (path e) nodes
@@ -95,10 +116,12 @@ module _ (g : Graph) (is_graph : IsGraph g) (v : View) (fits : ViewFits g v) (no
 pub exact_answers : (g : Graph) → IsGraph g → (v : View) (via : Via) → FitsVia via g v → (q : Query) → IsExact via q → (nodes : List ℕ)
     → AreOfBlocks v.block_of (IsQueryAnswer (shape_of_view g.seen v) q) nodes → AreQueryAnswers (shape_of g) q nodes
 exact_answers g is_graph v Data f q x nodes h = absurd x
-exact_answers g is_graph v (A i) f (path e) x nodes h = level_exact g is_graph v f.view nodes i f.agrees e x h
+exact_answers g is_graph v (A i) f (path e) x nodes h = level_exact g is_graph v f.view nodes sides.Parents i f.agrees e x h
 exact_answers g is_graph v (A i) f (branch q) x nodes h = absurd x
 exact_answers g is_graph v One f (path e) x nodes h = stable_exact g is_graph v f.view nodes f.index.stable e h
 exact_answers g is_graph v One f (branch q) x nodes h = absurd x
 exact_answers g is_graph v Fb f (path e) x nodes h =
     stable_exact g is_graph v f.view nodes (fb_stable (shape_of g) v.block_of (is_shape g is_graph) f.agrees).stable e h
+exact_answers g is_graph v (B i) f (path e) x nodes h = level_exact g is_graph v f.view nodes sides.Both i f.agrees e x h
+exact_answers g is_graph v (B i) f (branch q) x nodes h = shallow_exact g is_graph v f.view nodes i f.agrees q x h
 exact_answers g is_graph v Fb f (branch q) x nodes h = both_exact g is_graph v f.view nodes (fb_stable (shape_of g) v.block_of (is_shape g is_graph) f.agrees) q h

@@ -3,7 +3,7 @@ use Rattle.std.proofs.Common.{◌≡◌, ℕ, ◌+◌, ◌≤◌, List, Some, No
 use Rattle.std.specs.Prelude.{codes}
 use Rattle.std.proofs.lemmas.Option.{same_Some}
 use Rattle.path_spec.specs.Trees.{star, opt, child, below, Expr, only, or, last, then, Item, once, signed, label}
-use Rattle.index_api.specs.declared.kinds.Via.TheVariants.{Data, A, One, Fb}
+use Rattle.index_api.specs.declared.kinds.Via.TheVariants.{Data, A, One, Fb, B}
 use Rattle.branch_spec.specs.Trees as tree
 use Rattle.branch_query.specs.Queries.{path, branch}
 use Rattle.path_spec.specs.Matches.{Matches}
@@ -73,13 +73,19 @@ any_length_of_fb = tt
 not_data : ¬ IsExact Data (path three_labels)
 not_data h = h
 
--- a[/b]: a branching query is exact through the forward and backward index alone, however short it is
+-- a[/b]: a branching query is exact through the forward and backward index, and through a bounded one of its depth, 1
 abbrev with_child : tree.Branch
 with_child =
     tree.branch (tree.step (tree.label (codes "a")) (tree.pred (tree.one (tree.lone (tree.rel tree.child (tree.step (tree.label (codes "b")) tree.none) tree.end))) tree.none)) tree.end
 
 branching_of_fb : IsExact Fb (branch with_child)
 branching_of_fb = tt
+
+branching_of_bounded : IsExact (B 1) (branch with_child)
+branching_of_bounded = omega arith
+
+not_of_lowest : ¬ IsExact (B 0) (branch with_child)
+not_of_lowest h = omega (arith, h)
 
 no_level_of_branching : (i : ℕ) → ¬ IsExact (A i) (branch with_child)
 no_level_of_branching i h = h

@@ -2,6 +2,7 @@ pub mod BlockSets
 pub mod MappedWalks
 pub mod LooseWalks
 pub mod LooseBranches
+pub mod LooseLevels
 pub mod Mapped
 pub mod BlockAnswers
 pub mod Exact

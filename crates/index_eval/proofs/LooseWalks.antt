@@ -64,10 +64,11 @@ module _ (s t : Shape) (shape : IsShape s) where
     pub path_kept : (e : Expr) (v : ℕ) → IsAnswer s e v → IsAnswer t e v
     path_kept e v (w, m, u, h) = (w, m, u, leads_loose u w v h)
 
-  -- over the loose graph of a level, a walk of no more labels than the level allows has one of the graph beside it
-  module _ (i : ℕ) (is_loose : IsLoose s (Bis s i) t) where
-    bis_down : (j : ℕ) → j ≤ i → (u v : ℕ) → Bis s i u v → Bis s j u v
-    bis_down j h u v b = falls_to s (Bis s) (bis_family s shape) j i h u v b
+  -- over the loose graph of a relation within a level, a walk of no more labels than the level allows has one of the graph
+  -- beside it
+  module _ (i : ℕ) (R : ℕ → ℕ → Type 0) (is_loose : IsLoose s R t) (bisimilar : (u v : ℕ) → R u v → Bis s i u v) where
+    bis_down : (j : ℕ) → j ≤ i → (u v : ℕ) → R u v → Bis s j u v
+    bis_down j h u v r = falls_to s (Bis s) (bis_family s shape) j i h u v (bisimilar u v r)
 
     walk_back : (r : List ℕ) (ts : List (List ℕ)) (k x y v : ℕ) → k + length ts ≤ i → Leads t x (r ∷ ts) y → Bis s (k + length ts) y v
         → (u : ℕ) × Leads s u (r ∷ ts) v × Bis s k u x

@@ -5,21 +5,25 @@ use Rattle.std.proofs.lemmas.Bool.{cases_Bool, and_parts, leb-false, le-leb, lt-
 use Rattle.graph_spec.specs.declared.limits.Limits.{Limits}
 use Rattle.path_query.specs.Labels.{SpellsLabel}
 use Rattle.index_api.specs.declared.kinds.Via.{Via}
-use Rattle.index_api.specs.declared.kinds.Via.TheVariants.{Data, A, One, Fb}
-use Rattle.index_file.specs.declared.due.Due.TheVariants.{Given, Nodes, Edges, Ranks}
+use Rattle.index_api.specs.declared.kinds.Via.TheVariants.{Data, A, One, Fb, B}
+use Rattle.index_file.specs.declared.due.Due.{Due}
+use Rattle.index_file.specs.declared.due.Due.TheVariants.{Title, Given, Nodes, Edges, Ranks}
 use Rattle.index_file.specs.FoundNumbers.{saturated, IsFound, AreFound}
 use Rattle.index_file.specs.NamedIndexes.{IsNamed, IsTooHigh}
 use Rattle.index_file.specs.SavedFiles.{seen_of}
 use Rattle.index_file.specs.Statements.{given, live, gone, edges, edge, views, view, rank, HasPrefix, AreNumbers, IsNumber, NamesIndex}
 use Rattle.index_file.specs.Readings.{Reading, RankedView, last_of, is_live_in, live_in, is_behind, follows, last_via, with_rank, can_take_edge, can_take_view, take_given, take_edge, take_view}
 use Rattle.index_file.specs.ReadLabels.{IsOneTooMany, is_too_many}
-use Rattle.index_file.specs.ReadViews.{last_ranks}
-use Rattle.index_file.specs.Drafts.{IsDraft, nodes_left, ranks_left}
+use Rattle.index_file.specs.ReadEdges.{AreReadEdges}
+use Rattle.index_file.specs.ReadViews.{last_ranks, HaveRanks, most_views}
+use Rattle.index_file.specs.Drafts.{IsDraft, FitDue, nodes_left, ranks_left, edges_left}
 use Rattle.index_file.specs.Reads.{IsTaken, IsOver, IsWrong}
 use Rattle.index_file.proofs.DecimalLaws.{past, number_same, number_above}
 use Rattle.index_file.proofs.WordLaws.{behind_one}
 use Rattle.index_file.proofs.ReadNodeLaws.{live_below, not_live, live_few}
+use Rattle.index_file.proofs.ReadEdgeLaws.{edge_pushed, node_pushed}
 use Rattle.index_file.proofs.ReadViewLaws.{rank_saturated, rank_longer, last_begun}
+use Rattle.index_file.proofs.ReadRankLaws.{ranks_begun, rank_came, rank_keeps, last_begins, most_rises}
 use Rattle.index_file.proofs.StepLaws.{taken_at, over_at, wrong_given, wrong_node, wrong_edge, wrong_view, wrong_rank}
 
 pub last_read : {X : Type 0} (xs : List X) → slice_get xs (length xs - 1) ≡ last_of xs
@@ -195,8 +199,15 @@ too_high k (Some Data) (A level) low h = refl
 too_high k (Some (A below)) (A level) low h = ap (λ b. nat_eq level (below + 1) && b) (high_apart k level low h) ∙ and_off (nat_eq level (below + 1))
 too_high k (Some One) (A level) low h = refl
 too_high k (Some Fb) (A level) low h = refl
+too_high k (Some (B below)) (A level) low h = refl
 too_high k last One low h = absurd h
 too_high k last Fb low h = absurd h
+too_high k None (B level) low h = ne_eqb level 0 (λ e. omega (arith, e, h))
+too_high k (Some Data) (B level) low h = refl
+too_high k (Some (A below)) (B level) low h = ap (λ b. nat_eq below k && b) (ne_eqb level 0 (λ e. omega (arith, e, h))) ∙ and_off (nat_eq below k)
+too_high k (Some One) (B level) low h = ne_eqb level 0 (λ e. omega (arith, e, h))
+too_high k (Some Fb) (B level) low h = ne_eqb level 0 (λ e. omega (arith, e, h))
+too_high k (Some (B below)) (B level) low h = ap (λ b. nat_eq level (below + 1) && b) (high_apart k level low h) ∙ and_off (nat_eq level (below + 1))
 
 not_taken : (r : Reading) (count : ℕ) (via : Via) → can_take_view r count via ≡ false → take_view count via r ≡ None
 not_taken r count via off =
@@ -241,17 +252,48 @@ module _ (old : Reading) (d : IsDraft old) where
   ranks_few : length (last_ranks old.views) + ranks_left old.due ≤ 4294967295
   ranks_few = d.few_ranks
 
+  edges_few : length old.pairs + edges_left old.due ≤ 4294967295
+  edges_few = d.few_edges
+
   nodes_stay : length old.allocated + 0 ≤ 4294967295
   nodes_stay = omega (arith, nodes_few)
 
   ranks_stay : length (last_ranks old.views) + 0 ≤ 4294967295
   ranks_stay = omega (arith, ranks_few)
 
+  edges_stay : length old.pairs + 0 ≤ 4294967295
+  edges_stay = omega (arith, edges_few)
+
+  views_at : (due : Due) → old.due ≡ due → FitDue due (live_in old.allocated) old.views
+  views_at due e = subst (λ x. FitDue x (live_in old.allocated) old.views) e d.views
+
+  pub draft_title : old.due ≡ Title → IsDraft (record old { due = Given })
+  draft_title due =
+      let nodes : nodes_left old.due ≡ 4294967295 = ap nodes_left due in
+      let edges : edges_left old.due ≡ 4294967295 = ap edges_left due in
+      record {
+        level = d.level;
+        few_nodes = omega (arith, nodes_few, nodes);
+        few_ranks = ranks_stay;
+        few_edges = omega (arith, edges_few, edges);
+        few_views = d.few_views;
+        edges = d.edges;
+        views = views_at Title due;
+      }
+
   pub draft_given : (n k : ℕ) → old.due ≡ Given → n ≤ 4294967295 → k ≤ 8 → IsDraft (record old { due = Nodes n; k = k })
   draft_given n k due few low =
-      let before : nodes_left old.due ≡ 4294967295 = ap nodes_left due in
-      let all : length old.allocated + n ≤ 4294967295 = omega (arith, nodes_few, before, few) in
-      record { level = low; few_nodes = all; few_ranks = ranks_stay }
+      let nodes : nodes_left old.due ≡ 4294967295 = ap nodes_left due in
+      let edges : edges_left old.due ≡ 4294967295 = ap edges_left due in
+      record {
+        level = low;
+        few_nodes = omega (arith, nodes_few, nodes, few);
+        few_ranks = ranks_stay;
+        few_edges = omega (arith, edges_few, edges);
+        few_views = d.few_views;
+        edges = d.edges;
+        views = views_at Given due;
+      }
 
   pub draft_node : (left : ℕ) (nodes : List (Option (List ℕ))) (o : Option (List ℕ)) → old.due ≡ Nodes (suc left) → nodes ≡ old.allocated ++ o ∷ []
       → IsDraft (record old { due = Nodes left; allocated = nodes })
@@ -259,32 +301,100 @@ module _ (old : Reading) (d : IsDraft old) where
       let before : nodes_left old.due ≡ suc left = ap nodes_left due in
       let more = ap length e in
       let one = length-append old.allocated (o ∷ []) in
-      let all : length nodes + left ≤ 4294967295 = omega (arith, nodes_few, before, more, one) in
-      record { level = d.level; few_nodes = all; few_ranks = ranks_stay }
+      let edges : edges_left old.due ≡ 4294967295 = ap edges_left due in
+      record {
+        level = d.level;
+        few_nodes = omega (arith, nodes_few, before, more, one);
+        few_ranks = ranks_stay;
+        few_edges = omega (arith, edges_few, edges);
+        few_views = d.few_views;
+        edges = node_pushed old.allocated nodes o old.pairs d.edges e;
+        views = views_at (Nodes (suc left)) due;
+      }
 
-  pub draft_edges : (m : ℕ) (pairs : List (ℕ × ℕ)) → IsDraft (record old { due = Edges m; pairs = pairs })
-  draft_edges m pairs = record { level = d.level; few_nodes = nodes_stay; few_ranks = ranks_stay }
+  pub draft_edge_count : (m : ℕ) → old.due ≡ Nodes 0 → m ≤ 4294967295 → IsDraft (record old { due = Edges m })
+  draft_edge_count m due few =
+      let edges : edges_left old.due ≡ 4294967295 = ap edges_left due in
+      record {
+        level = d.level;
+        few_nodes = nodes_stay;
+        few_ranks = ranks_stay;
+        few_edges = omega (arith, edges_few, edges, few);
+        few_views = d.few_views;
+        edges = d.edges;
+        views = views_at (Nodes 0) due;
+      }
 
-  pub draft_views : (n : ℕ) → IsDraft (record old { due = Ranks 0 n })
-  draft_views n = record { level = d.level; few_nodes = nodes_stay; few_ranks = ranks_stay }
+  pub draft_edge : (left u v : ℕ) (pairs : List (ℕ × ℕ)) → old.due ≡ Edges (suc left) → can_take_edge old u v ≡ true → pairs ≡ old.pairs ++ (u, v) ∷ []
+      → IsDraft (record old { due = Edges left; pairs = pairs })
+  draft_edge left u v pairs due can e =
+      let before : edges_left old.due ≡ suc left = ap edges_left due in
+      let more = ap length e in
+      let one = length-append old.pairs ((u, v) ∷ []) in
+      record {
+        level = d.level;
+        few_nodes = nodes_stay;
+        few_ranks = ranks_stay;
+        few_edges = omega (arith, edges_few, before, more, one);
+        few_views = d.few_views;
+        edges = subst (AreReadEdges old.allocated) (sym e) (edge_pushed old u v d.edges can);
+        views = views_at (Edges (suc left)) due;
+      }
 
-  pub draft_view : (count n : ℕ) (via : Via) (vs : List RankedView) → count ≡ live_in old.allocated → vs ≡ old.views ++ record { via = via; ranks = [] } ∷ []
-      → IsDraft (record old { due = Ranks count n; views = vs })
-  draft_view count n via vs l e =
+  pub draft_views : (n : ℕ) → old.due ≡ Edges 0 → IsDraft (record old { due = Ranks 0 n })
+  draft_views n due = record {
+    level = d.level;
+    few_nodes = nodes_stay;
+    few_ranks = ranks_stay;
+    few_edges = edges_stay;
+    few_views = d.few_views;
+    edges = d.edges;
+    views = subst (λ vs. HaveRanks (live_in old.allocated) vs 0) (sym (views_at (Edges 0) due)) tt;
+  }
+
+  pub draft_view : (count n : ℕ) (via : Via) (vs : List RankedView) → old.due ≡ Ranks 0 n → can_take_view old n via ≡ true → count ≡ live_in old.allocated
+      → vs ≡ old.views ++ record { via = via; ranks = [] } ∷ [] → IsDraft (record old { due = Ranks count n; views = vs })
+  draft_view count n via vs due can l e =
       let none : length (last_ranks vs) ≡ 0 = ap (λ ws. length (last_ranks ws)) e ∙ ap length (last_begun old.views (record { via = via; ranks = [] })) in
       let few = live_few old.allocated in
-      let all : length (last_ranks vs) + count ≤ 4294967295 = omega (arith, nodes_stay, none, few, l) in
-      record { level = d.level; few_nodes = nodes_stay; few_ranks = all }
+      let more : length vs ≡ length old.views + 1 = ap length e ∙ length-append old.views (record { via = via; ranks = [] } ∷ []) in
+      let was = d.few_views in
+      let most = most_rises old.k (last_via old.views) via d.level (and_parts (nat_lt (length old.views) n) (follows old.k (last_via old.views) via) can).1 in
+      let last : most_views (last_via vs) ≡ most_views (Some via) = ap most_views (ap last_via e ∙ last_begins old.views (record { via = via; ranks = [] })) in
+      record {
+        level = d.level;
+        few_nodes = nodes_stay;
+        few_ranks = omega (arith, nodes_stay, none, few, l);
+        few_edges = edges_stay;
+        few_views = omega (arith, more, was, most, last);
+        edges = d.edges;
+        views = subst (λ m. HaveRanks (live_in old.allocated) vs m) (sym l)
+            (subst (λ ws. HaveRanks (live_in old.allocated) ws (live_in old.allocated)) (sym e) (ranks_begun (live_in old.allocated) old.views via (views_at (Ranks 0 n) due)));
+      }
 
   pub draft_rank : (left n r : ℕ) (vs : List RankedView) → old.due ≡ Ranks (suc left) n → with_rank old.views r ≡ Some vs → IsDraft (record old { due = Ranks left n; views = vs })
   draft_rank left n r vs due e =
       let before : ranks_left old.due ≡ suc left = ap ranks_left due in
       let more = rank_longer old.views r vs e in
-      let all : length (last_ranks vs) + left ≤ 4294967295 = omega (arith, ranks_few, before, more) in
-      record { level = d.level; few_nodes = nodes_stay; few_ranks = all }
+      let same = rank_keeps old.views r vs e in
+      let count = same.count in
+      let last = ap most_views same.last in
+      let was = d.few_views in
+      record {
+        level = d.level;
+        few_nodes = nodes_stay;
+        few_ranks = omega (arith, ranks_few, before, more);
+        few_edges = edges_stay;
+        few_views = omega (arith, count, last, was);
+        edges = d.edges;
+        views = rank_came (live_in old.allocated) left r old.views vs (views_at (Ranks (suc left) n) due) e;
+      }
 
   pub same_nodes : (nodes : List (Option (List ℕ))) → nodes ≡ old.allocated → IsDraft (record old { allocated = nodes })
   same_nodes nodes e = subst (λ xs. IsDraft (record old { allocated = xs })) (sym e) d
+
+  pub same_pairs : (pairs : List (ℕ × ℕ)) → pairs ≡ old.pairs → IsDraft (record old { pairs = pairs })
+  same_pairs pairs e = subst (λ xs. IsDraft (record old { pairs = xs })) (sym e) d
 
   pub same_views : (vs : List RankedView) → vs ≡ old.views → IsDraft (record old { views = vs })
   same_views vs e = subst (λ xs. IsDraft (record old { views = xs })) (sym e) d

@@ -4,7 +4,7 @@ use Rattle.std.specs.Prelude.{codes, option_and_then, slice_index, map}
 use Rattle.graph_spec.specs.ProgramLimits.{program_limits}
 use Rattle.graph_spec.specs.Lines.{cut}
 use Rattle.index_api.specs.declared.kinds.Via.{Via}
-use Rattle.index_api.specs.declared.kinds.Via.TheVariants.{Data, A, One, Fb}
+use Rattle.index_api.specs.declared.kinds.Via.TheVariants.{Data, A, One, Fb, B}
 use Rattle.index_file.specs.SavedFiles.{seen_of, ranks_at}
 use Rattle.index_file.specs.Statements.{Statement, title, given, live, gone, edges, edge, views, view, rank, number_of, Says}
 use Rattle.index_file.specs.declared.due.Due.TheVariants as due
@@ -89,6 +89,9 @@ one_twice = refl
 a_after_one : all_taken (head_of 2 (row One (view (A 0) ∷ []))) nothing_read ≡ None
 a_after_one = refl
 
+fb_after_bounded : all_taken (head_of 2 (row (B 0) (view Fb ∷ []))) nothing_read ≡ None
+fb_after_bounded = refl
+
 -- a level that is missing: in front, in between, at the end
 first_level_missing : all_taken (head_of 2 (view (A 1) ∷ [])) nothing_read ≡ None
 first_level_missing = refl
@@ -98,6 +101,9 @@ level_missing = refl
 
 one_too_early : all_taken (head_of 2 (row (A 0) (view One ∷ []))) nothing_read ≡ None
 one_too_early = refl
+
+bounded_missing : all_taken (head_of 2 (row Fb (view (B 1) ∷ []))) nothing_read ≡ None
+bounded_missing = refl
 
 level_too_high : all_taken (head_of 4 (row (A 0) (row (A 1) (row (A 2) (view (A 3) ∷ []))))) nothing_read ≡ None
 level_too_high = refl
@@ -193,6 +199,9 @@ says_view = (codes "a2", refl, (codes "2", refl, refl))
 
 says_fb : Says (codes "view fb") (view Fb)
 says_fb = (codes "fb", refl, refl)
+
+says_bounded : Says (codes "view b1") (view (B 1))
+says_bounded = (codes "b1", refl, (codes "1", refl, refl))
 
 no_data : Says (codes "view data") (view Data) → ⊥
 no_data s = s.2

@@ -7,8 +7,13 @@ mod StepLaws
 mod ReadLabelLaws
 mod ReadNodeLaws
 mod LineLaws
+mod ReadEdgeLaws
 mod ReadViewLaws
+mod ReadRankLaws
 mod DraftLaws
+mod SavedEdges
+mod SavedLaws
+mod SavedViewLaws
 mod OneStatement
 mod OneOutcome
 mod Matches

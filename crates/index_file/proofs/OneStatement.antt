@@ -10,7 +10,7 @@ use Rattle.graph_spec.proofs.MemberLaws.{has_cases, has_head, has_tail}
 use Rattle.path_query.specs.Labels.{SpellsLabel}
 use Rattle.path_query.proofs.LabelLaws.{label_one}
 use Rattle.index_api.specs.declared.kinds.Via.{Via}
-use Rattle.index_api.specs.declared.kinds.Via.TheVariants.{Data, A, One, Fb}
+use Rattle.index_api.specs.declared.kinds.Via.TheVariants.{Data, A, One, Fb, B}
 use Rattle.index_file.specs.Statements.{Statement, title, given, live, gone, edges, edge, views, view, rank, Says, HasPrefix, AreNumbers, IsNumber, NamesIndex}
 use Rattle.index_file.proofs.DecimalLaws.{digits_of, some_one, decimal_first}
 use Rattle.index_file.proofs.WordLaws.{behind_one, number_parts}
@@ -96,14 +96,22 @@ one_index word (A level) Data p q = absurd q
 one_index word (A level) (A high) (x, e, p) (y, f, q) = ap A (one_number x level high p (subst (λ d. IsNumber d high) (behind_one (codes "a") y x (sym f ∙ e)) q))
 one_index word (A level) One (x, e, p) q = absurd (let z = heads 97 111 x (codes "ne") (sym e ∙ q) in omega (arith, z))
 one_index word (A level) Fb (x, e, p) q = absurd (let z = heads 97 102 x (codes "b") (sym e ∙ q) in omega (arith, z))
+one_index word (A level) (B high) (x, e, p) (y, f, q) = absurd (let z = heads 97 98 x y (sym e ∙ f) in omega (arith, z))
 one_index word One Data p q = absurd q
 one_index word One (A high) p (y, f, q) = absurd (let z = heads 97 111 y (codes "ne") (sym f ∙ p) in omega (arith, z))
 one_index word One One p q = refl
 one_index word One Fb p q = absurd (let z = heads 111 102 (codes "ne") (codes "b") (sym p ∙ q) in omega (arith, z))
+one_index word One (B high) p (y, f, q) = absurd (let z = heads 98 111 y (codes "ne") (sym f ∙ p) in omega (arith, z))
 one_index word Fb Data p q = absurd q
 one_index word Fb (A high) p (y, f, q) = absurd (let z = heads 97 102 y (codes "b") (sym f ∙ p) in omega (arith, z))
 one_index word Fb One p q = absurd (let z = heads 111 102 (codes "ne") (codes "b") (sym q ∙ p) in omega (arith, z))
 one_index word Fb Fb p q = refl
+one_index word Fb (B high) p (y, f, q) = absurd (let z = heads 98 102 y (codes "b") (sym f ∙ p) in omega (arith, z))
+one_index word (B level) Data p q = absurd q
+one_index word (B level) (A high) (x, e, p) (y, f, q) = absurd (let z = heads 98 97 x y (sym e ∙ f) in omega (arith, z))
+one_index word (B level) One (x, e, p) q = absurd (let z = heads 98 111 x (codes "ne") (sym e ∙ q) in omega (arith, z))
+one_index word (B level) Fb (x, e, p) q = absurd (let z = heads 98 102 x (codes "b") (sym e ∙ q) in omega (arith, z))
+one_index word (B level) (B high) (x, e, p) (y, f, q) = ap B (one_number x level high p (subst (λ d. IsNumber d high) (behind_one (codes "b") y x (sym f ∙ e)) q))
 
 one_word : (line t u : List ℕ) → HasPrefix (codes "live ") line (λ word. SpellsLabel word t) → HasPrefix (codes "live ") line (λ word. SpellsLabel word u) → t ≡ u
 one_word line t u (x, e, p) (y, f, q) = label_one x t u p (subst (λ w. SpellsLabel w u) (behind_one (codes "live ") y x (sym f ∙ e)) q)

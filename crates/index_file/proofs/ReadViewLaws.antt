@@ -97,10 +97,10 @@ rank_saturated views v n few e = elim (cases_Bool (nat_le n 1000000000000000000)
 ]
 
 -- the ranks of the last view are one more then
-some_views : (xs ys : List RankedView) → Some xs ≡ Some ys → xs ≡ ys
+pub some_views : (xs ys : List RankedView) → Some xs ≡ Some ys → xs ≡ ys
 some_views xs ys e = cc
 
-then_parts : (o : Option (List RankedView)) (v : RankedView) (ws : List RankedView) → option_and_then (λ xs. Some (v ∷ xs)) o ≡ Some ws
+pub then_parts : (o : Option (List RankedView)) (v : RankedView) (ws : List RankedView) → option_and_then (λ xs. Some (v ∷ xs)) o ≡ Some ws
     → (xs : List RankedView) × (o ≡ Some xs) × (ws ≡ v ∷ xs)
 then_parts None v ws e = absurd (let z : None ≡ Some ws = e in cc)
 then_parts (Some xs) v ws e = (xs, refl, sym (some_views (v ∷ xs) ws e))

@@ -1,11 +1,12 @@
 -- What was read of a file, as it is stored.
-use Rattle.std.specs.Prelude.{ℕ, ◌≤◌, ◌+◌, List, length, Option, refl}
+use Rattle.std.specs.Prelude.{ℕ, ◌≡◌, ◌≤◌, ◌+◌, List, [], length, Option, refl}
 use Rattle.std.specs.Coded.{Coded, code_by, coded×, coded_ℕ, coded_list, coded_option}
 use Rattle.index_file.specs.declared.due.Due.{Due}
 use Rattle.index_file.specs.declared.due.Due.TheVariants.{Title, Given, Nodes, Edges, Ranks}
 use Rattle.index_file.specs.contracts.due.Due.{the_row as due_row}
-use Rattle.index_file.specs.Readings.{Reading, RankedView}
-use Rattle.index_file.specs.ReadViews.{read_views_code, last_ranks}
+use Rattle.index_file.specs.Readings.{Reading, RankedView, live_in, last_via}
+use Rattle.index_file.specs.ReadEdges.{AreReadEdges}
+use Rattle.index_file.specs.ReadViews.{read_views_code, last_ranks, HaveRanks, most_views}
 
 -- how many numbers may still come
 abbrev pub nodes_left : Due → ℕ
@@ -23,11 +24,31 @@ ranks_left (Nodes n) = 0
 ranks_left (Edges m) = 0
 ranks_left (Ranks m n) = m
 
--- the numbers, and the ranks of the last view, are fewer than 2^32 with those that are to come
+-- how many edges may still come
+abbrev pub edges_left : Due → ℕ
+edges_left Title = 4294967295
+edges_left Given = 4294967295
+edges_left (Nodes n) = 4294967295
+edges_left (Edges m) = m
+edges_left (Ranks m n) = 0
+
+-- the views come last, and each has a rank for each live node
+abbrev pub FitDue : Due → ℕ → List RankedView → Type 0
+FitDue Title live views = views ≡ []
+FitDue Given live views = views ≡ []
+FitDue (Nodes n) live views = views ≡ []
+FitDue (Edges m) live views = views ≡ []
+FitDue (Ranks m n) live views = HaveRanks live views m
+
+-- the numbers, the edges, and the ranks of the last view, are fewer than 2^32 with those that are to come
 pub record IsDraft (r : Reading) : Type 0 where
   pub level : r.k ≤ 8
   pub few_nodes : length r.allocated + nodes_left r.due ≤ 4294967295
   pub few_ranks : length (last_ranks r.views) + ranks_left r.due ≤ 4294967295
+  pub few_edges : length r.pairs + edges_left r.due ≤ 4294967295
+  pub few_views : length r.views ≤ most_views (last_via r.views)
+  pub edges : AreReadEdges r.allocated r.pairs
+  pub views : FitDue r.due (live_in r.allocated) r.views
 
 -- what was read is stored as its parts
 abbrev pub reading_code : Coded Reading

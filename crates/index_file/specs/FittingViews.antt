@@ -1,11 +1,11 @@
 -- Which views of a file fit its graph.
 use Rattle.std.specs.Prelude.{ℕ, List, Option, Some, None, slice_get}
 use Rattle.graph_spec.specs.Shapes.{Shape, shape_of}
-use Rattle.bisim_spec.specs.Bisimilarity.{Bis, FB}
+use Rattle.bisim_spec.specs.Bisimilarity.{Bis, Both, FB}
 use Rattle.bisim_spec.specs.Partitions.{Agrees}
 use Rattle.bisim_spec.specs.Stability.{Stable, Minimal}
 use Rattle.index_api.specs.declared.kinds.Via.{Via}
-use Rattle.index_api.specs.declared.kinds.Via.TheVariants.{Data, A, One, Fb}
+use Rattle.index_api.specs.declared.kinds.Via.TheVariants.{Data, A, One, Fb, B}
 use Rattle.index_file.specs.SavedFiles.{SavedFile, SavedView}
 
 -- Stable, and no two blocks can be merged. A graph with cycles may have several such partitions.
@@ -19,6 +19,7 @@ FitsVia s Data block = ⊥
 FitsVia s (A level) block = Agrees s block (Bis s level)
 FitsVia s One block = IsStableMinimal s block
 FitsVia s Fb block = Agrees s block (FB s)
+FitsVia s (B level) block = Agrees s block (Both s level)
 
 abbrev pub FitsSaved : SavedFile → Option SavedView → Type 0
 FitsSaved file None = ⊥

@@ -6,9 +6,12 @@ pub mod NamedIndexes
 pub mod Reads
 pub mod ReadLabels
 pub mod ReadNodes
+pub mod ReadEdges
 pub mod ReadViews
 pub mod Drafts
+pub mod SavedGraphs
 pub mod ReadSteps
 pub mod WrittenFiles
 pub mod BlockRanks
 pub mod FittingViews
+pub mod SavedIndexes

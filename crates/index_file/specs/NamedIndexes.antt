@@ -1,8 +1,7 @@
 -- Indexes that are named in a file.
-use Rattle.std.specs.Prelude.{ℕ, ◌≡◌, ◌<◌, List}
+use Rattle.std.specs.Prelude.{◌≡◌, ◌<◌}
 use Rattle.index_api.specs.declared.kinds.Via.{Via}
-use Rattle.index_api.specs.declared.kinds.Via.TheVariants.{Data, A, One, Fb}
-use Rattle.index_file.specs.Statements.{IsNumber}
+use Rattle.index_api.specs.declared.kinds.Via.TheVariants.{Data, A, One, Fb, B}
 
 -- P holds of this index alone
 pub record IsNamed (P : Via → Type 0) (via : Via) : Type 0 where
@@ -15,9 +14,4 @@ IsTooHigh Data = ⊥
 IsTooHigh (A level) = 8 < level
 IsTooHigh One = ⊥
 IsTooHigh Fb = ⊥
-
--- the A(i)-index of the level that the digits write
-pub record IsLevel (digits : List ℕ) (via : Via) : Type 0 where
-  pub level : ℕ
-  pub is : via ≡ A level
-  pub number : IsNumber digits level
+IsTooHigh (B level) = 8 < level

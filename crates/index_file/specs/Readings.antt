@@ -3,7 +3,7 @@ use Rattle.std.specs.Prelude.{ℕ, zero, suc, ◌+◌, ◌&&◌, ◌||◌, not, 
 use Rattle.graph_spec.specs.declared.limits.Limits.{Limits}
 use Rattle.graph_spec.specs.Graphs.{is_seen}
 use Rattle.index_api.specs.declared.kinds.Via.{Via}
-use Rattle.index_api.specs.declared.kinds.Via.TheVariants.{Data, A, One, Fb}
+use Rattle.index_api.specs.declared.kinds.Via.TheVariants.{Data, A, One, Fb, B}
 use Rattle.index_file.specs.SavedFiles.{SavedFile, SavedView, seen_of, graph_of, ranks_at}
 use Rattle.index_file.specs.declared.due.Due.{Due}
 use Rattle.index_file.specs.declared.due.Due.TheVariants.{Title, Given, Nodes, Edges, Ranks}
@@ -49,7 +49,7 @@ is_behind None u v = true
 is_behind (Some e) u v = nat_lt e.0 u || (nat_eq e.0 u && nat_lt e.1 v)
 
 -- Whether an index may stand behind the last one, where levels up to k are kept: first the A(i)-indexes, none or all from 0
--- to k, then the 1-index, then the forward and backward index.
+-- to k, then the 1-index, the forward and backward index, and the bounded ones, none or all from 0 to k.
 abbrev pub follows : ℕ → Option Via → Via → Bool
 follows k last Data = false
 follows k None (A level) = nat_eq level 0
@@ -57,16 +57,25 @@ follows k (Some Data) (A level) = false
 follows k (Some (A below)) (A level) = nat_eq level (below + 1) && nat_le level k
 follows k (Some One) (A level) = false
 follows k (Some Fb) (A level) = false
+follows k (Some (B below)) (A level) = false
 follows k None One = true
 follows k (Some Data) One = false
 follows k (Some (A level)) One = nat_eq level k
 follows k (Some One) One = false
 follows k (Some Fb) One = false
+follows k (Some (B level)) One = false
 follows k None Fb = true
 follows k (Some Data) Fb = false
 follows k (Some (A level)) Fb = nat_eq level k
 follows k (Some One) Fb = true
 follows k (Some Fb) Fb = false
+follows k (Some (B level)) Fb = false
+follows k None (B level) = nat_eq level 0
+follows k (Some Data) (B level) = false
+follows k (Some (A below)) (B level) = nat_eq below k && nat_eq level 0
+follows k (Some One) (B level) = nat_eq level 0
+follows k (Some Fb) (B level) = nat_eq level 0
+follows k (Some (B below)) (B level) = nat_eq level (below + 1) && nat_le level k
 
 -- whether no level is missing behind the last index
 abbrev pub is_end : ℕ → Option Via → Bool
@@ -75,6 +84,7 @@ is_end k (Some Data) = false
 is_end k (Some (A level)) = nat_eq level k
 is_end k (Some One) = true
 is_end k (Some Fb) = true
+is_end k (Some (B level)) = nat_eq level k
 
 -- the index of the last view
 abbrev pub last_via : List RankedView → Option Via

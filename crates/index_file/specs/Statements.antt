@@ -5,12 +5,12 @@ use Rattle.std.specs.Char.{is_ascii_digit}
 use Rattle.std.specs.Str.Parse.{digits_value}
 use Rattle.path_query.specs.Labels.{SpellsLabel}
 use Rattle.index_api.specs.declared.kinds.Via.{Via}
-use Rattle.index_api.specs.declared.kinds.Via.TheVariants.{Data, A, One, Fb}
+use Rattle.index_api.specs.declared.kinds.Via.TheVariants.{Data, A, One, Fb, B}
 
 pub data Statement : Type 0 where
   -- the first line
   title : Statement
-  -- how many numbers were allocated, and the highest level of the A(k)-family
+  -- how many numbers were allocated, and the highest level of the families
   given : ℕ → ℕ → Statement
   -- the next number is that of a node with this label, or of one that is gone
   live : List ℕ → Statement
@@ -37,12 +37,17 @@ number_of digits = if is_decimal digits then Some (digits_value 10 digits) else 
 abbrev pub IsNumber : List ℕ → ℕ → Type 0
 IsNumber digits n = number_of digits ≡ Some n
 
--- how an index is named: `a` and its level, `one`, `fb`; the graph itself is none
+-- a letter and then a number
+abbrev pub NamesLevel : List ℕ → List ℕ → ℕ → Type 0
+NamesLevel letter word level = (digits : List ℕ) × (word ≡ letter ++ digits) × IsNumber digits level
+
+-- how an index is named: `a` and its level, `one`, `fb`, `b` and its level; the graph itself is none
 abbrev pub NamesIndex : List ℕ → Via → Type 0
 NamesIndex word Data = ⊥
-NamesIndex word (A level) = (digits : List ℕ) × (word ≡ codes "a" ++ digits) × IsNumber digits level
+NamesIndex word (A level) = NamesLevel (codes "a") word level
 NamesIndex word One = word ≡ codes "one"
 NamesIndex word Fb = word ≡ codes "fb"
+NamesIndex word (B level) = NamesLevel (codes "b") word level
 
 -- the text is this word, and behind it one of which P holds
 abbrev pub HasPrefix : List ℕ → List ℕ → (List ℕ → Type 0) → Type 0

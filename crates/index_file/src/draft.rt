@@ -1,17 +1,21 @@
 // What the lines of a file give, one after another.
-ghost use Rattle.std.specs.Prelude.{◌≡◌, ◌≢◌, ◌<◌, ◌≤◌, ◌++◌, ◌∷◌, ℕ, List, [], suc, codes, OnOk, IfOk, IsErrOf, IfSome, IfNone, IsTrue, IsFalse, Some, nat_lt};
+ghost use Rattle.std.specs.Prelude.{◌≡◌, ◌≢◌, ◌<◌, ◌≤◌, ◌++◌, ◌∷◌, ℕ, List, [], suc, codes, OnOk, OnErr, IfOk, IsErrOf, IfSome, IfNone, IsTrue, IsFalse, Some, nat_lt};
 ghost use Rattle.index_file.specs.Readings as readings;
-ghost use Rattle.index_file.specs.Readings.{nothing_read, last_of, is_live_in, can_take_edge, can_take_view};
+ghost use Rattle.index_file.specs.Readings.{nothing_read, is_complete, file_of, last_of, is_live_in, can_take_edge, can_take_view};
 ghost use Rattle.index_file.specs.Reads.{IsTaken, IsOver, IsWrong};
+ghost use Rattle.index_file.specs.SavedGraphs.{IsSaved, saved_file};
 ghost use Rattle.index_file.specs.declared.due.Due.TheVariants.{Title, Given, Nodes, Edges, Ranks};
 
 use crate::due::{Due, Stop};
 use crate::names::view_of;
-use crate::numbers::{number, number_behind, two_numbers, two_numbers_behind};
+use crate::numbers::{number, number_behind, to_u32, two_numbers, two_numbers_behind};
 use crate::order::{follows, is_end};
 use crate::read_nodes::ReadNodes;
 use crate::read_views::ReadViews;
+use crate::saved::Saved;
 use crate::words::{behind, is_word};
+use adjacency::Adjacency;
+use bisim_spec::Side;
 use index_api::Via;
 use px_base::{Limits, Memory};
 use std::alloc::Global;
@@ -58,7 +62,8 @@ fn is_behind(pairs: &[(u32, u32)], from: u32, onto: u32) -> bool
 }
 
 fn push_pair(pairs: &mut Vec<(u32, u32)>, edge: (u32, u32)) -> Result<(), Memory>
-    ensures { OnOk result (pairs.new.items ≡ pairs.old.items ++ edge ∷ []) }
+    ensures ok { OnOk result (pairs.new.items ≡ pairs.old.items ++ edge ∷ []) }
+    ensures err { OnErr result (pairs.new.items ≡ pairs.old.items) }
 {
     pairs.push(edge)?;
     Ok(())
@@ -418,6 +423,33 @@ impl Draft {
             Due::Nodes(count) => self.take_behind_nodes(alloc, limits, line, count),
             Due::Edges(count) => self.take_behind_edges(limits, line, count),
             Due::Ranks(ranks, views) => self.take_behind_ranks(alloc, limits, line, ranks, views),
+        }
+    }
+
+    // The lists of children and parents, and where the ranks of nodes stand.
+    fn tables(&self, alloc: Global) -> Result<(Adjacency, Adjacency, Vec<u32>), Memory>
+        requires { IsTrue (is_complete self.now) }
+        ensures saved { IfOk result (λ t. IsSaved self.now.allocated t.0 t.1 self.now.views t.2.items) }
+        ensures file { IfOk result (λ t. saved_file self.now.allocated t.0 self.now.k self.now.views ≡ file_of self.now) }
+    {
+        let places = self.nodes.places(alloc)?;
+        let size = to_u32(self.nodes.len());
+        let children = Adjacency::of(alloc, size, &self.pairs, Side::Children)?;
+        let parents = Adjacency::of(alloc, size, &self.pairs, Side::Parents)?;
+        Ok((children, parents, places))
+    }
+
+    /// What the file holds, once it may end. O(n + m) for n numbers and m edges; it takes 12 bytes a number and 8 an edge, and
+    /// frees 8 an edge.
+    pub(crate) fn into_saved(self, alloc: Global) -> Result<Saved, Memory>
+        requires { IsTrue (is_complete self) }
+        ensures { IfOk result (λ s. s ≡ file_of self) }
+    {
+        match self.tables(alloc) {
+            Ok((children, parents, places)) => Ok(Saved::of_parts(
+                self.nodes, children, parents, self.k, self.views, places,
+            )),
+            Err(error) => Err(error),
         }
     }
 }

@@ -12,8 +12,11 @@ mod read_labels;
 mod read_nodes;
 mod read_views;
 mod reading;
+mod saved;
 mod view_lines;
 mod words;
 
 pub use graph_text::head;
-pub use view_lines::view_text;
+pub use reading::{SavedError, read};
+pub use saved::Saved;
+pub use view_lines::{via_text, view_text};

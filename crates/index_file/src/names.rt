@@ -2,23 +2,19 @@
 ghost use Rattle.std.specs.Prelude.{ℕ, ◌<◌, IfSome, IfNone, codes};
 ghost use Rattle.index_api.specs.declared.kinds.Via.{Via};
 ghost use Rattle.index_file.specs.Statements.{NamesIndex, HasPrefix, IsNumber};
-ghost use Rattle.index_file.specs.NamedIndexes.{IsNamed, IsLevel, IsTooHigh};
+ghost use Rattle.index_file.specs.NamedIndexes.{IsNamed, IsTooHigh};
 
 use crate::numbers::number;
 use crate::words::{behind, is_word};
 use index_api::Via;
 
 // The level, where there may be one as high.
-fn level_of(digits: &[u8]) -> Option<Via>
-    ensures found { IfSome result (λ via. IsLevel digits.now via) }
+fn level_of(digits: &[u8]) -> Option<u32>
+    ensures found { IfSome result (λ n. IsNumber digits.now n) }
     ensures none { IfNone result ((n : ℕ) → IsNumber digits.now n → 8 < n) }
 {
     let level = number(digits)?;
-    if level <= 8 {
-        Some(Via::A(level as u32))
-    } else {
-        None
-    }
+    if level <= 8 { Some(level as u32) } else { None }
 }
 
 // The index that the word names. None where it names none, or a level past 8.
@@ -32,9 +28,13 @@ fn index_of(word: &[u8]) -> Option<Via>
     if is_word(word, b"fb") {
         return Some(Via::Fb);
     }
-    let digits = behind(word, b"a")?;
-    let via = level_of(digits)?;
-    Some(via)
+    if let Some(digits) = behind(word, b"a") {
+        let level = level_of(digits)?;
+        return Some(Via::A(level));
+    }
+    let digits = behind(word, b"b")?;
+    let level = level_of(digits)?;
+    Some(Via::B(level))
 }
 
 /// The index that the line of a view names. None where it names none, or a level past 8. O(b) for a line of b bytes,

@@ -108,3 +108,11 @@ pub(crate) fn two_numbers_behind(line: &[u8], word: &[u8], between: &[u8]) -> Op
     let pair = two_numbers(rest, between)?;
     Some(pair)
 }
+
+/// The number, which is below 2^32. O(1), no memory.
+pub(crate) fn to_u32(n: usize) -> u32
+    requires { n ≤ 4294967295 }
+    ensures { result ≡ n }
+{
+    n as u32
+}

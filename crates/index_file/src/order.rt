@@ -1,6 +1,6 @@
 // The order in which views stand.
 ghost use Rattle.std.specs.Prelude.{◌≡◌, ◌≤◌};
-ghost use Rattle.index_api.specs.declared.kinds.Via.TheVariants.{A, One, Fb};
+ghost use Rattle.index_api.specs.declared.kinds.Via.TheVariants.{A, One, Fb, B};
 ghost use Rattle.index_file.specs.Readings as readings;
 
 use index_api::Via;
@@ -16,6 +16,7 @@ fn level_follows(k: u32, last: Option<Via>, level: u32) -> bool
         Some(Via::Data) => false,
         Some(Via::One) => false,
         Some(Via::Fb) => false,
+        Some(Via::B(_)) => false,
     }
 }
 
@@ -28,6 +29,7 @@ fn one_follows(k: u32, last: Option<Via>) -> bool
         Some(Via::A(level)) => level == k,
         Some(Via::One) => false,
         Some(Via::Fb) => false,
+        Some(Via::B(_)) => false,
     }
 }
 
@@ -40,6 +42,22 @@ fn fb_follows(k: u32, last: Option<Via>) -> bool
         Some(Via::A(level)) => level == k,
         Some(Via::One) => true,
         Some(Via::Fb) => false,
+        Some(Via::B(_)) => false,
+    }
+}
+
+// Whether the bounded forward and backward index of that level may stand behind the last index.
+fn bounded_follows(k: u32, last: Option<Via>, level: u32) -> bool
+    requires { k ≤ 8 }
+    ensures { result ≡ readings.follows k last (B level) }
+{
+    match last {
+        None => level == 0,
+        Some(Via::Data) => false,
+        Some(Via::A(below)) => below == k && level == 0,
+        Some(Via::One) => level == 0,
+        Some(Via::Fb) => level == 0,
+        Some(Via::B(below)) => below < level && level - below == 1 && level <= k,
     }
 }
 
@@ -53,6 +71,7 @@ pub(crate) fn follows(k: u32, last: Option<Via>, via: Via) -> bool
         Via::A(level) => level_follows(k, last, level),
         Via::One => one_follows(k, last),
         Via::Fb => fb_follows(k, last),
+        Via::B(level) => bounded_follows(k, last, level),
     }
 }
 
@@ -66,5 +85,6 @@ pub(crate) fn is_end(k: u32, last: Option<Via>) -> bool
         Some(Via::A(level)) => level == k,
         Some(Via::One) => true,
         Some(Via::Fb) => true,
+        Some(Via::B(level)) => level == k,
     }
 }

@@ -1,8 +1,10 @@
 // The nodes of a file as they are read.
-ghost use Rattle.std.specs.Prelude.{◌≡◌, ◌<◌, ◌++◌, ◌∷◌, ℕ, List, [], Some, None, false, IfOk, OnOk, OnErr, IsErrOf, length, vec_len, vec_capacity};
+ghost use Rattle.std.specs.Prelude.{◌≡◌, ◌<◌, ◌≤◌, ◌++◌, ◌∷◌, ℕ, List, [], suc, if◌then◌else◌, Some, None, false, IfOk, OnOk, OnErr, IsErrOf, length, vec_len, vec_capacity};
 ghost use Rattle.graph_spec.specs.Members.{at};
 ghost use Rattle.path_query.specs.Labels.{SpellsLabel};
-ghost use Rattle.index_file.specs.SavedFiles.{seen_of};
+ghost use Rattle.label_graph.specs.GraphViews.{label_number};
+ghost use Rattle.index_file.specs.SavedFiles.{seen_of, graph_of};
+ghost use Rattle.index_file.specs.SavedGraphs.{ArePlaces};
 ghost use Rattle.index_file.specs.Readings.{is_live_in, live_in};
 ghost use Rattle.index_file.specs.ReadLabels.{IsOneTooMany, is_too_many};
 
@@ -50,6 +52,13 @@ fn reserve_one(numbers: &mut Vec<Option<u32>>) -> Result<(), Memory>
     Ok(())
 }
 
+fn count_if(count: u32, yes: bool) -> u32
+    requires { count < 4294967295 }
+    ensures { result ≡ (if yes then suc count else count) }
+{
+    if yes { count + 1 } else { count }
+}
+
 impl ReadNodes {
     /// No numbers. O(1); it takes 16 KiB.
     pub(crate) fn new(alloc: Global) -> Result<ReadNodes, Memory>
@@ -75,6 +84,27 @@ impl ReadNodes {
         ensures { result ≡ is_live_in self.now n }
     {
         label_at(&self.numbers, n).is_some()
+    }
+
+    /// The number of the node's label, by first use, and `None` exactly where it isn't live. O(1), no memory.
+    pub(crate) fn label(&self, n: u32) -> Option<u32>
+        ensures { result ≡ label_number (graph_of self.now []) n }
+    {
+        label_at(&self.numbers, n as u64)
+    }
+
+    /// For each number how many nodes are live below it. O(n); it takes 4 bytes each.
+    pub(crate) fn places(&self, alloc: Global) -> Result<Vec<u32>, Memory>
+        requires few { length self.now ≤ 4294967295 }
+        ensures { IfOk result (λ places. ArePlaces self.now places.items) }
+    {
+        let mut places = Vec::with_capacity(alloc, self.len())?;
+        let mut live: u32 = 0;
+        for n in 0..self.len() {
+            places.push(live)?;
+            live = count_if(live, self.is_live(n as u64));
+        }
+        Ok(places)
     }
 
     /// How many nodes are live. O(1), no memory.

@@ -1,5 +1,5 @@
 // The views of a file as they are read.
-ghost use Rattle.std.specs.Prelude.{◌≡◌, ◌<◌, ◌≤◌, ◌++◌, ◌∷◌, ℕ, List, [], suc, length, nat_eq, if◌then◌else◌, Some, None, IsSome, IfSome, IfNone, IfOk, OnOk, OnErr, IsErrOf};
+ghost use Rattle.std.specs.Prelude.{◌≡◌, ◌<◌, ◌≤◌, ◌++◌, ◌∷◌, ℕ, List, [], suc, length, nat_eq, if◌then◌else◌, Some, None, option_map, slice_get, IsSome, IfSome, IfNone, IfOk, OnOk, OnErr, IsErrOf};
 ghost use Rattle.index_file.specs.Readings.{last_via, with_rank};
 ghost use Rattle.index_file.specs.ReadViews.{last_ranks};
 
@@ -40,6 +40,12 @@ impl RankedView {
         ensures { result ≡ self.now.via }
     {
         self.via
+    }
+
+    fn ranks(&self) -> &[u32]
+        ensures { result.now ≡ self.now.ranks }
+    {
+        &self.ranks
     }
 
     fn push(&mut self, rank: u32) -> Result<(), Memory>
@@ -130,6 +136,22 @@ impl ReadViews {
         ensures { result ≡ last_via self.now }
     {
         last_via_in(&self.list)
+    }
+
+    /// The index of a view. O(1), no memory.
+    pub(crate) fn via(&self, j: u32) -> Via
+        requires { j < length self.now }
+        ensures { option_map (λ v. v.via) (slice_get self.now j) ≡ Some result }
+    {
+        self.list[j as usize].via()
+    }
+
+    /// The ranks of a view. O(1), no memory.
+    pub(crate) fn ranks(&self, j: u32) -> &[u32]
+        requires { j < length self.now }
+        ensures { option_map (λ v. v.ranks) (slice_get self.now j) ≡ Some result.now }
+    {
+        self.list[j as usize].ranks()
     }
 
     /// Puts a view behind the others, with capacity for so many ranks.

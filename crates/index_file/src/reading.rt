@@ -8,6 +8,7 @@ ghost use Rattle.index_file.specs.declared.reading.SavedError.TheVariants.{Memor
 
 use crate::draft::Draft;
 use crate::due::Stop;
+use crate::saved::Saved;
 use px_base::{GRAPH_BYTES, LINE_BYTES, Limits, LineFault, LineReader, Memory, Shelf};
 use std::alloc::Global;
 use thiserror::Error;
@@ -137,24 +138,17 @@ fn read_open<H: Shelf>(alloc: Global, limits: &Limits, shelf: &mut H) -> Result<
     }
 }
 
-/// What an index file gives, line by line. The first line that is refused ends it: `Limit` and `Syntax` have its
-/// number, and a text that ends too early gives `Syntax` with the number behind its last line. `Missing` comes where
-/// there is no file of that name, and `Fault` where a call on the shelf failed. Expected O(b) for a file of b bytes.
-/// It takes 8 bytes for each number and for each edge, 4 for each rank, the texts of the labels, and the longest
-/// line.
+// Reads a file to its end.
 #[tactic(auto, using(crate::proofs::OneOutcome::one_outcome))]
-pub(crate) fn read_draft<H: Shelf>(
+fn read_draft<H: Shelf>(
     alloc: Global,
     shelf: &mut H,
     name: &str,
     limits: &Limits,
 ) -> Result<Draft, SavedError>
-    // A draft comes only where the text of the file gives it.
     ensures read { IfOk result (λ d. ReadsObservable limits.now (H.files shelf.old) name.now (holds (file_of d))) }
     ensures complete { IfOk result (λ d. IsTrue (is_complete d)) }
-    // The number of a line comes only where the text of the file is refused there, for that reason.
     ensures refused { IfErr result (TellsOutcome (ReadsObservable limits.now (H.files shelf.old) name.now)) }
-    // A text gives one outcome at most.
     ensures once { (text : List ℕ) (a b : Outcome) → Reads limits.now text a → Reads limits.now text b → a ≡ b }
     ensures missing { IsErrOf result SavedError.Missing → LacksFile (H.files shelf.old) name.now }
     ensures files { H.files shelf.new ≡ H.files shelf.old }
@@ -165,5 +159,43 @@ pub(crate) fn read_draft<H: Shelf>(
         Ok(true) => read_open(alloc, limits, shelf),
         Ok(false) => Err(SavedError::Missing),
         Err(_) => Err(SavedError::Fault),
+    }
+}
+
+fn saved_of(alloc: Global, draft: Draft) -> Result<Saved, SavedError>
+    requires { IsTrue (is_complete draft) }
+    ensures saved { IfOk result (λ s. s ≡ file_of draft) }
+    ensures err { IfErr result (λ e. e ≡ SavedError.Memory) }
+{
+    match draft.into_saved(alloc) {
+        Ok(saved) => Ok(saved),
+        Err(_) => Err(SavedError::Memory),
+    }
+}
+
+/// Reads an index file. The first line that is refused ends it: `Limit` and `Syntax` have its number, and a text that ends too
+/// early gives `Syntax` with the number behind its last line. `Missing` comes where there is no file of that name, and `Fault` where
+/// a call on the shelf failed. Expected O(b) for a file of b bytes. While it reads it takes 8 bytes for each number and for each
+/// edge, 4 for each rank, the texts of the labels, and the longest line.
+pub fn read<H: Shelf>(
+    alloc: Global,
+    shelf: &mut H,
+    name: &str,
+    limits: &Limits,
+) -> Result<Saved, SavedError>
+    // A value comes only where the text of the file holds it.
+    ensures read { IfOk result (λ s. ReadsObservable limits.now (H.files shelf.old) name.now (holds s)) }
+    // The number of a line comes only where the text of the file is refused there, for that reason.
+    ensures refused { IfErr result (TellsOutcome (ReadsObservable limits.now (H.files shelf.old) name.now)) }
+    // A text gives one outcome at most.
+    ensures once { (text : List ℕ) (a b : Outcome) → Reads limits.now text a → Reads limits.now text b → a ≡ b }
+    ensures missing { IsErrOf result SavedError.Missing → LacksFile (H.files shelf.old) name.now }
+    ensures files { H.files shelf.new ≡ H.files shelf.old }
+    ensures fault { IsErrOf result SavedError.Fault → MayHaveRisen (H.faults shelf.old) (H.faults shelf.new) }
+    ensures no_fault { result ≢ Err SavedError.Fault → H.faults shelf.new ≡ H.faults shelf.old }
+{
+    match read_draft(alloc, shelf, name, limits) {
+        Ok(draft) => saved_of(alloc, draft),
+        Err(error) => Err(error),
     }
 }

@@ -108,19 +108,31 @@ fn push_ranks(
 
 // Appends the name of an index.
 fn push_via(out: &mut String, via: Via) -> Result<(), Memory>
-    requires { via ≢ Data }
     ensures { OnOk result (string_bytes out.new ≡ string_bytes out.old ++ via_word via) }
 {
     match via {
-        Via::Data => unreachable!(),
+        Via::Data => out.push_str("data")?,
         Via::A(level) => {
             out.push_str("a")?;
             push_decimal(out, level)?;
         }
         Via::One => out.push_str("one")?,
         Via::Fb => out.push_str("fb")?,
+        Via::B(level) => {
+            out.push_str("b")?;
+            push_decimal(out, level)?;
+        }
     }
     Ok(())
+}
+
+/// How the index is named in a file. O(1); it takes the memory of the text.
+pub fn via_text(alloc: Global, via: Via) -> Result<Text, Memory>
+    ensures text { IfOk result (λ t. t ≡ via_word via) }
+{
+    let mut out = String::new(alloc);
+    push_via(&mut out, via)?;
+    Ok(Text::from_string(out))
 }
 
 /// The lines of the view of an index: its name, and then for each live node, rising, the rank of its block. Blocks are ranked from 0 by

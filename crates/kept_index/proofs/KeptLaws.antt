@@ -2,7 +2,7 @@
 use Rattle.std.proofs.Common.{◌≡◌, ℕ, List, [], length, Option, Some, None, IsSome, false, true≢false, refl, sym, subst, arith, ◌∙◌}
 use Rattle.graph_spec.specs.Graphs.{Graph}
 use Rattle.bisim_spec.specs.declared.kind.Kind.{Kind}
-use Rattle.bisim_spec.specs.declared.kind.Kind.TheVariants.{A, One, Fb}
+use Rattle.bisim_spec.specs.declared.kind.Kind.TheVariants.{A, One, Fb, B}
 use Rattle.bisim_spec.specs.IndexGraphs.{View}
 use Rattle.bisim_spec.specs.Fits.{FitsAt, HasCount, view_at, view_count}
 use Rattle.index_api.specs.Meanings.{Meaning, IsReady, IsBuilt, IsRefreshed, BeginsFull}
@@ -13,6 +13,7 @@ some_count : (kind : Kind) → HasCount kind 0 → ⊥
 some_count A h = absurd (omega (arith, h))
 some_count One h = absurd (omega (arith, h))
 some_count Fb h = absurd (omega (arith, h))
+some_count B h = absurd (omega (arith, h))
 
 -- so one without views isn't ready
 pub bare_unready : (m : Meaning) (g : Graph) → m.views ≡ [] → IsReady m g → ⊥
@@ -32,6 +33,7 @@ view_there kind g i (Some v) e h = refl
 view_there A g i None e h = absurd h
 view_there One g i None e h = absurd h
 view_there Fb g i None e h = absurd (true≢false e)
+view_there B g i None e h = absurd h
 
 -- an index that is ready has each view, where none is computed on demand
 pub all_there : (m : Meaning) (g : Graph) → is_kind m.kind Fb ≡ false → IsReady m g → IsRefreshed m m g

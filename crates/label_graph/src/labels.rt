@@ -98,8 +98,9 @@ impl Labels {
         (l as usize) < self.table.len() && self.table.as_slice()[l as usize] == *t
     }
 
-    /// The number of the entry, and `None` exactly where the text is none.
-    pub(crate) fn entry(&self, t: &Text) -> Option<u32>
+    /// The number of the label; of a text that is ahead, the number that it will have if the texts ahead become labels in
+    /// their order; and `None` exactly where the text is neither. Expected O(b) for a text of b bytes, no memory.
+    pub fn entry(&self, t: &Text) -> Option<u32>
         ensures { result ≡ position (bytes_eq t.now) (entries self.now) }
     {
         let at = self.table.get_index_of(t)?;

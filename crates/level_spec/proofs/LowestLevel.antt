@@ -4,7 +4,7 @@ use Rattle.graph_spec.specs.Graphs.{Graph, IsGraph}
 use Rattle.graph_spec.specs.Shapes.{shape_of}
 use Rattle.graph_spec.specs.Members.{at}
 use Rattle.label_graph.specs.GraphViews.{label_number}
-use Rattle.bisim_spec.specs.Bisimilarity.{Bis}
+use Rattle.bisim_spec.specs.Bisimilarity.{SameLabel}
 use Rattle.bisim_spec.specs.Partitions.{IsPartition, Agrees}
 use Rattle.bisim_spec.proofs.Bisimilar.{some_of}
 use Rattle.bisim_levels.specs.NeighbourSides.{no_neighbours}
@@ -50,5 +50,5 @@ refines g block labels key graph partition block_labels labelled apart = record 
 
 -- where keys are labels, and no two blocks have one, the partition is that by labels
 pub lowest_agrees : (g : Graph) (block labels : List (Option ℕ)) (key : ℕ → Option (List ℕ)) → IsGraph g → IsPartition (shape_of g) block
-    → BlocksHaveLabels block (at labels) (label_number g) → AreLabelled labels key → AreApart key → Agrees (shape_of g) block (Bis (shape_of g) 0)
+    → BlocksHaveLabels block (at labels) (label_number g) → AreLabelled labels key → AreApart key → Agrees (shape_of g) block (SameLabel (shape_of g))
 lowest_agrees g block labels key graph partition block_labels labelled apart = labels_agree g graph block (refines g block labels key graph partition block_labels labelled apart)

@@ -5,14 +5,16 @@ use Rattle.graph_spec.specs.Shapes.{Shape, IsNode, shape_of}
 use Rattle.graph_spec.specs.Members.{at}
 use Rattle.label_graph.specs.GraphViews.{label_number}
 use Rattle.bisim_spec.specs.Partitions.{IsPartition}
-use Rattle.bisim_spec.specs.Reach.{within_distance}
+use Rattle.bisim_spec.specs.declared.sides.Sides.{Sides}
+use Rattle.bisim_spec.specs.SidedLevels.{affected}
 use Rattle.one_spec.specs.BlockLabels.{BlocksHaveLabels}
 use Rattle.one_spec.specs.EdgeCounts.{AreEdgeCounts}
-use Rattle.bisim_levels.specs.Keys.{IsKey}
+use Rattle.bisim_levels.specs.SidedKeys.{IsSidedKey}
 
--- the node's block, if it has one, has the key that the node has over the partition one level below
-pub record IsKeyed (s : Shape) (below block : List (Option ℕ)) (key : ℕ → Option (List ℕ)) (n : ℕ) : Type 0 where
-  pub keyed : (b : ℕ) → at block n ≡ Some b → (numbers : List ℕ) × (key b ≡ Some numbers) × IsKey (at below) below s.edge n numbers
+-- the node's block, if it has one, has the key that the node has over the partition one level below, by the sides
+-- that count
+pub record IsKeyed (sides : Sides) (s : Shape) (below block : List (Option ℕ)) (key : ℕ → Option (List ℕ)) (n : ℕ) : Type 0 where
+  pub keyed : (b : ℕ) → at block n ≡ Some b → (numbers : List ℕ) × (key b ≡ Some numbers) × IsSidedKey sides s below n numbers
 
 -- no two blocks have one key
 pub record AreApart (key : ℕ → Option (List ℕ)) : Type 0 where
@@ -22,9 +24,9 @@ pub record AreApart (key : ℕ → Option (List ℕ)) : Type 0 where
 pub record KeysStay (key key2 : ℕ → Option (List ℕ)) : Type 0 where
   pub kept : (b : ℕ) (numbers : List ℕ) → key b ≡ Some numbers → key2 b ≡ Some numbers
 
--- nodes of the graph after the change that aren't within so many edges of the targets have the blocks that they had
-pub record SameFar (target : ℕ → Bool) (s : Shape) (i : ℕ) (block block2 : List (Option ℕ)) : Type 0 where
-  pub same : (n : ℕ) → IsNode s n → IsFalse (within_distance s target i n) → at block2 n ≡ at block n
+-- nodes of the graph after the change that aren't affected at the level have the blocks that they had
+pub record SameFar (sides : Sides) (ends : ℕ → Bool) (s : Shape) (i : ℕ) (block block2 : List (Option ℕ)) : Type 0 where
+  pub same : (n : ℕ) → IsNode s n → IsFalse (affected sides s ends i n) → at block2 n ≡ at block n
 
 -- the first number of a key: above the lowest level it is the block of the members one level below
 abbrev pub first_number : Option (List ℕ) → Option ℕ

@@ -5,7 +5,8 @@ use Rattle.std.proofs.lemmas.Bool.Decides.{eqb_tells}
 use Rattle.graph_spec.specs.Graphs.{Graph}
 use Rattle.graph_spec.specs.Shapes.{shape_of}
 use Rattle.graph_spec.specs.Members.{at, Lists}
-use Rattle.bisim_spec.specs.Reach.{within_distance}
+use Rattle.bisim_spec.specs.declared.sides.Sides.{Sides}
+use Rattle.bisim_spec.specs.SidedLevels.{affected}
 use Rattle.keyed_quotient.specs.KeyedQuotients.{KeyedQuotient, key_at}
 use Rattle.keyed_quotient.specs.Changes.{KeyedChanges, blocks_as_shown, labels_as_shown, support_as_shown, shown_key}
 use Rattle.ak_family.specs.Families.{level_at, blocks_at}
@@ -15,8 +16,8 @@ use Rattle.level_update.specs.MovedLevels.{HasMovedAffected, AreKeyedAffected}
 use Rattle.level_update.specs.Placed.{AreTwoLevels, ArePlaced}
 
 -- a level and the one above it
-pub two_levels : (target : ℕ → Bool) (g : Graph) (f : List KeyedQuotient) (d : List KeyedChanges) (i : ℕ) → HasMovedAffected target g f d → i + 1 < length f → AreTwoLevels g f d i
-two_levels target g f d i m h = record {
+pub two_levels : (sides : Sides) (ends : ℕ → Bool) (g : Graph) (f : List KeyedQuotient) (d : List KeyedChanges) (i : ℕ) → HasMovedAffected sides ends g f d → i + 1 < length f → AreTwoLevels g f d i
+two_levels sides ends g f d i m h = record {
   over = m.over;
   within = h;
   lower = m.levels i (omega (arith, h));
@@ -25,9 +26,9 @@ two_levels target g f d i m h = record {
 }
 
 -- Once the nodes within one edge more are placed, all holds still.
-pub moving_placed : (target : ℕ → Bool) (g : Graph) (f : List KeyedQuotient) (d d2 : List KeyedChanges) (i : ℕ) (nodes : List ℕ) → HasMovedAffected target g f d
-    → ArePlaced g f d d2 i nodes → Lists (within_distance (shape_of g) target (i + 1)) nodes → HasMovedAffected target g f d2
-moving_placed target g f d d2 i nodes m p l = record {
+pub moving_placed : (sides : Sides) (ends : ℕ → Bool) (g : Graph) (f : List KeyedQuotient) (d d2 : List KeyedChanges) (i : ℕ) (nodes : List ℕ) → HasMovedAffected sides ends g f d
+    → ArePlaced sides g f d d2 i nodes → Lists (affected sides (shape_of g) ends (i + 1)) nodes → HasMovedAffected sides ends g f d2
+moving_placed sides ends g f d d2 i nodes m p l = record {
   over = p.levels.over;
   levels = λ j h. elim (eqb_tells j (i + 1)) [
     | inl s ↦ subst (λ j. IsLevelOf g (blocks_shown f d2 j) (labels_shown f d2 j) (support_shown f d2 j)) (sym s.1) p.levels.upper
@@ -55,10 +56,10 @@ moving_placed target g f d d2 i nodes m p l = record {
     | inr t ↦ subst (λ (x : KeyedChanges). KeysStay (key_at (level_at f j).keys) (shown_key (level_at f j) x)) (sym (p.others j t.1)) (m.stay j h)
   ];
   far = λ j h. elim (eqb_tells j (i + 1)) [
-    | inl s ↦ subst (λ j. SameFar target (shape_of g) j (blocks_at f j) (blocks_shown f d2 j)) (sym s.1) (record {
-      same = λ n node off. p.blocks n (l.members n ∙ off) ∙ (subst (λ j. SameFar target (shape_of g) j (blocks_at f j) (blocks_shown f d j)) s.1 (m.far j h)).same n node off;
+    | inl s ↦ subst (λ j. SameFar sides ends (shape_of g) j (blocks_at f j) (blocks_shown f d2 j)) (sym s.1) (record {
+      same = λ n node off. p.blocks n (l.members n ∙ off) ∙ (subst (λ j. SameFar sides ends (shape_of g) j (blocks_at f j) (blocks_shown f d j)) s.1 (m.far j h)).same n node off;
     })
-    | inr t ↦ subst (λ (x : KeyedChanges). SameFar target (shape_of g) j (blocks_at f j) (blocks_as_shown (level_at f j) x)) (sym (p.others j t.1)) (m.far j h)
+    | inr t ↦ subst (λ (x : KeyedChanges). SameFar sides ends (shape_of g) j (blocks_at f j) (blocks_as_shown (level_at f j) x)) (sym (p.others j t.1)) (m.far j h)
   ];
 }
   where
@@ -69,28 +70,28 @@ moving_placed target g f d d2 i nodes m p l = record {
     ]
 
 -- at the levels up to i the affected nodes are in the blocks of their keys
-pub record AreKeyedTo (target : ℕ → Bool) (g : Graph) (f : List KeyedQuotient) (d : List KeyedChanges) (i : ℕ) : Type 0 where
-  pub each : (j n : ℕ) → j < i → IsTrue (within_distance (shape_of g) target (j + 1) n) → IsKeyed (shape_of g) (blocks_shown f d j) (blocks_shown f d (j + 1)) (key_shown f d (j + 1)) n
+pub record AreKeyedTo (sides : Sides) (ends : ℕ → Bool) (g : Graph) (f : List KeyedQuotient) (d : List KeyedChanges) (i : ℕ) : Type 0 where
+  pub each : (j n : ℕ) → j < i → IsTrue (affected sides (shape_of g) ends (j + 1) n) → IsKeyed sides (shape_of g) (blocks_shown f d j) (blocks_shown f d (j + 1)) (key_shown f d (j + 1)) n
 
-pub keyed_start : (target : ℕ → Bool) (g : Graph) (f : List KeyedQuotient) (d : List KeyedChanges) → AreKeyedTo target g f d 0
-keyed_start target g f d = record { each = λ j n h on. absurd (omega (arith, h)) }
+pub keyed_start : (sides : Sides) (ends : ℕ → Bool) (g : Graph) (f : List KeyedQuotient) (d : List KeyedChanges) → AreKeyedTo sides ends g f d 0
+keyed_start sides ends g f d = record { each = λ j n h on. absurd (omega (arith, h)) }
 
-pub keyed_next : (target : ℕ → Bool) (g : Graph) (f : List KeyedQuotient) (d d2 : List KeyedChanges) (i : ℕ) (nodes : List ℕ) → AreKeyedTo target g f d i
-    → ArePlaced g f d d2 i nodes → Lists (within_distance (shape_of g) target (i + 1)) nodes → AreKeyedTo target g f d2 (i + 1)
-keyed_next target g f d d2 i nodes k p l = record {
+pub keyed_next : (sides : Sides) (ends : ℕ → Bool) (g : Graph) (f : List KeyedQuotient) (d d2 : List KeyedChanges) (i : ℕ) (nodes : List ℕ) → AreKeyedTo sides ends g f d i
+    → ArePlaced sides g f d d2 i nodes → Lists (affected sides (shape_of g) ends (i + 1)) nodes → AreKeyedTo sides ends g f d2 (i + 1)
+keyed_next sides ends g f d d2 i nodes k p l = record {
   each = λ j n h on. elim (cases_lt j i) [
     | inl below ↦
         (let same = p.others j (λ e. absurd (omega (arith, e, below))) in
         let same_up = p.others (j + 1) (λ e. absurd (omega (arith, e, below))) in
-        subst (λ (x : KeyedChanges). IsKeyed (shape_of g) (blocks_as_shown (level_at f j) x) (blocks_shown f d2 (j + 1)) (key_shown f d2 (j + 1)) n) (sym same)
-        (subst (λ (x : KeyedChanges). IsKeyed (shape_of g) (blocks_shown f d j) (blocks_as_shown (level_at f (j + 1)) x) (shown_key (level_at f (j + 1)) x) n) (sym same_up) (k.each j n below on)))
+        subst (λ (x : KeyedChanges). IsKeyed sides (shape_of g) (blocks_as_shown (level_at f j) x) (blocks_shown f d2 (j + 1)) (key_shown f d2 (j + 1)) n) (sym same)
+        (subst (λ (x : KeyedChanges). IsKeyed sides (shape_of g) (blocks_shown f d j) (blocks_as_shown (level_at f (j + 1)) x) (shown_key (level_at f (j + 1)) x) n) (sym same_up) (k.each j n below on)))
     | inr past ↦
         (let same : j ≡ i = omega (arith, h, past) in
-        subst (λ j. IsKeyed (shape_of g) (blocks_shown f d2 j) (blocks_shown f d2 (j + 1)) (key_shown f d2 (j + 1)) n) (sym same)
-        (p.keyed n (l.members n ∙ subst (λ j. IsTrue (within_distance (shape_of g) target (j + 1) n)) same on)))
+        subst (λ j. IsKeyed sides (shape_of g) (blocks_shown f d2 j) (blocks_shown f d2 (j + 1)) (key_shown f d2 (j + 1)) n) (sym same)
+        (p.keyed n (l.members n ∙ subst (λ j. IsTrue (affected sides (shape_of g) ends (j + 1) n)) same on)))
   ];
 }
 
 -- all levels are done
-pub keyed_all : (target : ℕ → Bool) (g : Graph) (f : List KeyedQuotient) (d : List KeyedChanges) (i : ℕ) → AreKeyedTo target g f d i → length f ≤ i + 1 → AreKeyedAffected target g f d
-keyed_all target g f d i k all = record { each = λ j n h on. k.each j n (omega (arith, h, all)) on }
+pub keyed_all : (sides : Sides) (ends : ℕ → Bool) (g : Graph) (f : List KeyedQuotient) (d : List KeyedChanges) (i : ℕ) → AreKeyedTo sides ends g f d i → length f ≤ i + 1 → AreKeyedAffected sides ends g f d
+keyed_all sides ends g f d i k all = record { each = λ j n h on. k.each j n (omega (arith, h, all)) on }

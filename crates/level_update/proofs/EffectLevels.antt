@@ -7,7 +7,8 @@ use Rattle.std.proofs.lemmas.Bool.Decides.{eqb_tells, Decides-eqb}
 use Rattle.graph_spec.specs.Graphs.{Graph, IsGraph, is_live}
 use Rattle.graph_spec.specs.Members.{at, has}
 use Rattle.graph_spec.specs.Shapes.{shape_of}
-use Rattle.bisim_spec.specs.Reach.{within_distance}
+use Rattle.bisim_spec.specs.declared.sides.Sides.{Sides}
+use Rattle.bisim_spec.specs.SidedLevels.{spread, affected}
 use Rattle.bisim_spec.proofs.Reached.{within_more}
 use Rattle.level_update.specs.MovedLevels.{HasMovedAffected}
 use Rattle.std.proofs.Math.Bool.{or-false}
@@ -26,8 +27,8 @@ use Rattle.level_spec.specs.Keyed.{KeysStay, AreLabelled, IsLevelOf, LabelsGoUp,
 use Rattle.ak_family.specs.Families.{level_at, blocks_at}
 use Rattle.ak_family.specs.LevelDrafts.{changes_at, blocks_shown, labels_shown, support_shown, key_shown, AreOver, AreSameBut, KeepsAllButSupports, KeepsLabelsAndKeys}
 use Rattle.level_update.specs.Placed.{LabelsKept}
-use Rattle.level_update.specs.LevelEffects.{KeyHasLabel, own_number, HasOwnKey, KeysBegin, IsLevelOnWay, IsLevelRelabelled, IsLevelDrafted, IsDraftedBelow, AreLevelsDrafted, IsNodeJoined, IsNodeLeft, IsEdgeLowered, IsEdgeRaised}
-use Rattle.level_update.proofs.Bases.{next_is, AreBases}
+use Rattle.level_update.specs.LevelEffects.{AreBases, KeyHasLabel, own_number, HasOwnKey, KeysBegin, IsLevelOnWay, IsLevelRelabelled, IsLevelDrafted, IsDraftedBelow, AreLevelsDrafted, IsNodeJoined, IsNodeLeft, IsEdgeLowered, IsEdgeRaised}
+use Rattle.level_update.proofs.Bases.{next_is}
 use Rattle.level_update.proofs.Unchanged.{none_blocks, none_labels, none_support, none_key}
 
 pub same_some : {X : Type 0} (x y : X) → Some x ≡ Some y → x ≡ y
@@ -352,15 +353,16 @@ same_next i d d1 d2 p q = λ j ne. q j ne ∙ p j ne
 -- ---- all levels
 
 -- Once the effects are drafted at each level, the affected nodes can move.
-pub levels_moving : (came : List ℕ) (target : ℕ → Bool) (g2 : Graph) (f : List KeyedQuotient) (d : List KeyedChanges) → ((n : ℕ) → IsTrue (has came n) → target n ≡ true) → 0 < length f
-    → AreLevelsDrafted came g2 f d → HasMovedAffected target g2 f d
-levels_moving came target g2 f d targets some w = record {
+pub levels_moving : (sides : Sides) (came : List ℕ) (ends : ℕ → Bool) (g2 : Graph) (f : List KeyedQuotient) (d : List KeyedChanges) → ((n : ℕ) → IsTrue (has came n) → ends n ≡ true)
+    → 0 < length f → AreLevelsDrafted came g2 f d → HasMovedAffected sides ends g2 f d
+levels_moving sides came ends g2 f d among some w = record {
   over = w.over;
   levels = λ i h. (w.each i h).level;
   lowest = (w.each 0 some).begin;
   up = λ i h. subst (λ j. LabelsGoUp (labels_shown f d i) (labels_shown f d j) (key_shown f d j)) (sym (next_is i)) (subst (IsLevelDrafted came g2 f d) (next_is i) (w.each (i + 1) h)).begin;
   stay = λ i h. (w.each i h).stay;
   far = λ i h. record {
-    same = λ n live off. (w.each i h).far n live (false_from_ne_true (has came n) (λ t. both_ways (within_distance (shape_of g2) target i n) off (within_more (shape_of g2) target 0 i n (omega arith) (targets n t))));
+    same = λ n live off. (w.each i h).far n live (false_from_ne_true (has came n) (λ t.
+        both_ways (affected sides (shape_of g2) ends i n) off (within_more (spread sides (shape_of g2)) ends 0 i n (omega arith) (among n t))));
   };
 }

@@ -6,11 +6,11 @@ use Rattle.graph_spec.specs.Shapes.{Shape, shape_of}
 use Rattle.graph_spec.specs.Members.{at}
 use Rattle.graph_spec.proofs.GraphLaws.{is_shape}
 use Rattle.label_graph.proofs.Positions.{text-at}
-use Rattle.bisim_spec.specs.Bisimilarity.{Bis}
-use Rattle.bisim_spec.specs.Partitions.{IsPartition, Agrees}
-use Rattle.bisim_spec.specs.Reach.{within_distance}
 use Rattle.bisim_spec.specs.Fits.{FitsLevel}
-use Rattle.bisim_spec.proofs.Outside.{DiffersAt}
+use Rattle.bisim_spec.specs.Partitions.{IsPartition, Agrees}
+use Rattle.bisim_spec.specs.declared.sides.Sides.{Sides}
+use Rattle.bisim_spec.specs.SidedLevels.{AtLevel, affected, DiffersBy}
+use Rattle.bisim_spec.proofs.LevelSides.{lowest_level}
 use Rattle.quotient_draft.specs.Drafts.{has_member, inhabited_from, settled_view}
 use Rattle.quotient_draft.proofs.Gone.{member_at, member_there}
 use Rattle.keyed_quotient.specs.KeyedQuotients.{KeyedQuotient, key_at}
@@ -18,47 +18,50 @@ use Rattle.keyed_quotient.specs.Changes.{KeyedChanges, blocks_as_shown, labels_a
 use Rattle.level_spec.specs.Keyed.{IsKeyed, AreApart, SameFar, IsLevelOf}
 use Rattle.level_spec.proofs.AffectedLevels.{keyed_level, keyed_after}
 use Rattle.level_spec.proofs.LowestLevel.{lowest_agrees}
-use Rattle.level_spec.proofs.SupportedKeys.{around_each, around_every, none_from, none_onto}
+use Rattle.level_spec.proofs.SupportedKeys.{keyed_by_supports, none_from, none_onto}
 use Rattle.ak_family.specs.Families.{level_at, blocks_at, AreKeyedBySupports}
-use Rattle.ak_family.specs.LevelDrafts.{changes_at, blocks_shown, labels_shown, support_shown, key_shown, ShowsFamily}
+use Rattle.ak_family.specs.LevelDrafts.{changes_at, blocks_shown, labels_shown, support_shown, key_shown, ShowsFamily, ShowsKeys}
 use Rattle.level_update.specs.MovedLevels.{HasMovedAffected, AreKeyedAffected}
 use Rattle.level_update.specs.FamilyDrafts.{ShownFit}
-use Rattle.level_update.proofs.Bases.{next_is, AreBases}
+use Rattle.level_update.specs.LevelEffects.{AreKeyedBases}
+use Rattle.level_update.proofs.Bases.{next_is}
 
 -- What is known once all affected nodes have moved.
-pub record HaveMoved (target : ℕ → Bool) (g g2 : Graph) (f : List KeyedQuotient) (d : List KeyedChanges) : Type 0 where
+pub record HaveMoved (sides : Sides) (ends : ℕ → Bool) (g g2 : Graph) (f : List KeyedQuotient) (d : List KeyedChanges) : Type 0 where
   pub graph : IsGraph g2
-  pub differs : DiffersAt target (shape_of g) (shape_of g2)
-  pub bases : AreBases g f
-  pub moving : HasMovedAffected target g2 f d
-  pub within_keyed : AreKeyedAffected target g2 f d
+  pub differs : DiffersBy sides ends (shape_of g) (shape_of g2)
+  pub bases : AreKeyedBases sides g f
+  pub moving : HasMovedAffected sides ends g2 f d
+  pub within_keyed : AreKeyedAffected sides ends g2 f d
   pub some : 0 < length f
 
 -- no two blocks of a level have one key
-apart_at : (target : ℕ → Bool) (g g2 : Graph) (f : List KeyedQuotient) (d : List KeyedChanges) → HaveMoved target g g2 f d → (i : ℕ) → i < length f → AreApart (key_shown f d i)
-apart_at target g g2 f d w i h = record { apart = (w.moving.over.each i h).keyed.apart }
+apart_at : (sides : Sides) (ends : ℕ → Bool) (g g2 : Graph) (f : List KeyedQuotient) (d : List KeyedChanges) → HaveMoved sides ends g g2 f d → (i : ℕ) → i < length f → AreApart (key_shown f d i)
+apart_at sides ends g g2 f d w i h = record { apart = (w.moving.over.each i h).keyed.apart }
 
 -- above the lowest level each node is in the block of its key
-pub keyed_at : (target : ℕ → Bool) (g g2 : Graph) (f : List KeyedQuotient) (d : List KeyedChanges) → HaveMoved target g g2 f d → (i n : ℕ) → i + 1 < length f
-    → IsKeyed (shape_of g2) (blocks_shown f d i) (blocks_shown f d (i + 1)) (key_shown f d (i + 1)) n
-keyed_at target g g2 f d w i n h =
-    keyed_after target (shape_of g) (shape_of g2) (blocks_at f i) (blocks_shown f d i) (blocks_at f (i + 1)) (blocks_shown f d (i + 1)) (key_at (level_at f (i + 1)).keys)
-    (key_shown f d (i + 1)) i (is_shape g2 w.graph) w.differs (w.moving.far i (omega (arith, h)))
-    (subst (λ j. SameFar target (shape_of g2) j (blocks_at f (i + 1)) (blocks_shown f d (i + 1))) (next_is i) (w.moving.far (i + 1) h))
+pub keyed_at : (sides : Sides) (ends : ℕ → Bool) (g g2 : Graph) (f : List KeyedQuotient) (d : List KeyedChanges) → HaveMoved sides ends g g2 f d → (i n : ℕ) → i + 1 < length f
+    → IsKeyed sides (shape_of g2) (blocks_shown f d i) (blocks_shown f d (i + 1)) (key_shown f d (i + 1)) n
+keyed_at sides ends g g2 f d w i n h =
+    keyed_after sides ends (shape_of g) (shape_of g2) (is_shape g2 w.graph) w.differs (blocks_at f i) (blocks_shown f d i) (blocks_at f (i + 1)) (blocks_shown f d (i + 1))
+    (key_at (level_at f (i + 1)).keys) (key_shown f d (i + 1)) i (w.moving.far i (omega (arith, h)))
+    (subst (λ j. SameFar sides ends (shape_of g2) j (blocks_at f (i + 1)) (blocks_shown f d (i + 1))) (next_is i) (w.moving.far (i + 1) h))
     (w.moving.levels (i + 1) h).partition (w.moving.stay (i + 1) h)
     (λ m. w.bases.keyed i m h)
-    (λ m on. w.within_keyed.each i m h (subst (λ j. IsTrue (within_distance (shape_of g2) target j m)) (sym (next_is i)) on)) n
+    (λ m on. w.within_keyed.each i m h (subst (λ j. IsTrue (affected sides (shape_of g2) ends j m)) (sym (next_is i)) on)) n
 
 -- each level is that of bisimilarity
-agrees_at : (target : ℕ → Bool) (g g2 : Graph) (f : List KeyedQuotient) (d : List KeyedChanges) → HaveMoved target g g2 f d → (i : ℕ) → i < length f
-    → Agrees (shape_of g2) (blocks_shown f d i) (Bis (shape_of g2) i)
-agrees_at target g g2 f d w zero h =
-    lowest_agrees g2 (blocks_shown f d 0) (labels_shown f d 0) (key_shown f d 0) w.graph (w.moving.levels 0 h).partition (w.moving.levels 0 h).block_labels w.moving.lowest (apart_at target g g2 f d w 0 h)
-agrees_at target g g2 f d w (suc i) h =
+agrees_at : (sides : Sides) (ends : ℕ → Bool) (g g2 : Graph) (f : List KeyedQuotient) (d : List KeyedChanges) → HaveMoved sides ends g g2 f d → (i : ℕ) → i < length f
+    → Agrees (shape_of g2) (blocks_shown f d i) (AtLevel sides (shape_of g2) i)
+agrees_at sides ends g g2 f d w zero h =
+    lowest_level sides (shape_of g2) (blocks_shown f d 0)
+    (lowest_agrees g2 (blocks_shown f d 0) (labels_shown f d 0) (key_shown f d 0) w.graph (w.moving.levels 0 h).partition (w.moving.levels 0 h).block_labels w.moving.lowest
+    (apart_at sides ends g g2 f d w 0 h))
+agrees_at sides ends g g2 f d w (suc i) h =
     let up : i + 1 < length f = omega (arith, h) in
-    subst (λ j. Agrees (shape_of g2) (blocks_shown f d j) (Bis (shape_of g2) (suc i))) (next_is i)
-    (keyed_level (shape_of g2) (blocks_shown f d i) (blocks_shown f d (i + 1)) (key_shown f d (i + 1)) i (is_shape g2 w.graph) (agrees_at target g g2 f d w i (omega (arith, h)))
-    (w.moving.levels (i + 1) up).partition (apart_at target g g2 f d w (i + 1) up) (λ n. keyed_at target g g2 f d w i n up))
+    subst (λ j. Agrees (shape_of g2) (blocks_shown f d j) (AtLevel sides (shape_of g2) (suc i))) (next_is i)
+    (keyed_level sides (shape_of g2) (blocks_shown f d i) (blocks_shown f d (i + 1)) (key_shown f d (i + 1)) i (is_shape g2 w.graph) (agrees_at sides ends g g2 f d w i (omega (arith, h)))
+    (w.moving.levels (i + 1) up).partition (apart_at sides ends g g2 f d w (i + 1) up) (λ n. keyed_at sides ends g g2 f d w i n up))
 
 -- ---- once it is settled
 
@@ -94,9 +97,9 @@ shown_inhabited block labels b h = member_at block b (member_from_label (has_mem
 shown_label : (block labels : List (Option ℕ)) (n b l : ℕ) → at block n ≡ Some b → at labels b ≡ Some l → at (inhabited_from block 0 labels) b ≡ Some l
 shown_label block labels n b l e h = inhabited_whole block labels b ∙ ap (λ t. cond t (at labels b) none_label) (member_there block b n e) ∙ h
 
-level_fits : (g : Graph) (i : ℕ) (q : KeyedQuotient) (d : KeyedChanges) → IsLevelOf g (blocks_as_shown q d) (labels_as_shown q d) (support_as_shown q d)
-    → Agrees (shape_of g) (blocks_as_shown q d) (Bis (shape_of g) i) → FitsLevel g i (settled_view q.quotient d.drafted)
-level_fits g i q d level agrees = record {
+level_fits : (sides : Sides) (g : Graph) (i : ℕ) (q : KeyedQuotient) (d : KeyedChanges) → IsLevelOf g (blocks_as_shown q d) (labels_as_shown q d) (support_as_shown q d)
+    → Agrees (shape_of g) (blocks_as_shown q d) (AtLevel sides (shape_of g) i) → FitsLevel sides g i (settled_view q.quotient d.drafted)
+level_fits sides g i q d level agrees = record {
   view = record {
     inhabited = λ b h. shown_inhabited (blocks_as_shown q d) (labels_as_shown q d) b h;
     labelled = λ n b e.
@@ -108,8 +111,8 @@ level_fits g i q d level agrees = record {
   agrees = agrees;
 }
 
-pub shown_fit : (target : ℕ → Bool) (g g2 : Graph) (f : List KeyedQuotient) (d : List KeyedChanges) → HaveMoved target g g2 f d → ShownFit g2 f d
-shown_fit target g g2 f d w i h = level_fits g2 i (level_at f i) (changes_at d i) (w.moving.levels i h) (agrees_at target g g2 f d w i h)
+pub shown_fit : (sides : Sides) (ends : ℕ → Bool) (g g2 : Graph) (f : List KeyedQuotient) (d : List KeyedChanges) → HaveMoved sides ends g g2 f d → ShownFit sides g2 f d
+shown_fit sides ends g g2 f d w i h = level_fits sides g2 i (level_at f i) (changes_at d i) (w.moving.levels i h) (agrees_at sides ends g g2 f d w i h)
 
 -- ---- what is shown is a family
 
@@ -121,21 +124,11 @@ both_same false false f h = refl
 same_nodes : (s : Shape) (below block : List (Option ℕ)) → IsPartition s below → IsPartition s block → (n : ℕ) → is_some (at block n) ≡ is_some (at below n)
 same_nodes s below block lower upper n = both_same (is_some (at block n)) (is_some (at below n)) (λ h. lower.live n (upper.only n h)) (λ h. upper.live n (lower.only n h))
 
-level_keyed : (g : Graph) (below block labels : List (Option ℕ)) (key : ℕ → Option (List ℕ)) (support : ℕ → ℕ → ℕ) → IsGraph g → IsPartition (shape_of g) below
-    → IsLevelOf g block labels support → ((n : ℕ) → IsKeyed (shape_of g) below block key n) → AreKeyedBySupports below block key support
-level_keyed g below block labels key support graph lower level keyed = record {
+level_keyed : (sides : Sides) (g : Graph) (below block labels : List (Option ℕ)) (key : ℕ → Option (List ℕ)) (support : ℕ → ℕ → ℕ) → IsGraph g → IsPartition (shape_of g) below
+    → IsLevelOf g block labels support → ((n : ℕ) → IsKeyed sides (shape_of g) below block key n) → AreKeyedBySupports sides below block key support
+level_keyed sides g below block labels key support graph lower level keyed = record {
   nodes = same_nodes (shape_of g) below block lower level.partition;
-  keyed = λ n b e.
-      let k = (keyed n).keyed b e in
-      record {
-        number = k.2.number;
-        around = k.2.around;
-        is = k.1 ∙ ap Some k.2.is;
-        own_is = k.2.own_is;
-        rising = k.2.rising;
-        each = λ c h. around_each g below block key support graph level.partition level.supports keyed n b k.0 e k.2 c h;
-        every = λ a c h first. around_every g below block key support graph level.partition level.supports keyed n b k.0 k.1 k.2 a c h first;
-      };
+  keyed = keyed_by_supports sides g graph below block key support level.partition level.supports keyed;
 }
 
 no_member : (block : List (Option ℕ)) (b : ℕ) → has_member block b ≡ false → (n : ℕ) → at block n ≡ Some b → ⊥
@@ -147,11 +140,16 @@ level_unsupported g block labels support level = record {
   onto = λ b c h. none_onto g block support c b level.supports (no_member block b h);
 }
 
-pub shows_family : (target : ℕ → Bool) (g g2 : Graph) (f : List KeyedQuotient) (d : List KeyedChanges) → HaveMoved target g g2 f d → ShowsFamily f d
-shows_family target g g2 f d w = record {
+pub shows_family : (sides : Sides) (ends : ℕ → Bool) (g g2 : Graph) (f : List KeyedQuotient) (d : List KeyedChanges) → HaveMoved sides ends g g2 f d → ShowsFamily f d
+shows_family sides ends g g2 f d w = record {
   over = w.moving.over;
   lowest = w.moving.lowest;
-  above = λ i h. level_keyed g2 (blocks_shown f d i) (blocks_shown f d (i + 1)) (labels_shown f d (i + 1)) (key_shown f d (i + 1)) (support_shown f d (i + 1)) w.graph
-      (w.moving.levels i (omega (arith, h))).partition (w.moving.levels (i + 1) h) (λ n. keyed_at target g g2 f d w i n h);
   empty = λ i h. level_unsupported g2 (blocks_shown f d i) (labels_shown f d i) (support_shown f d i) (w.moving.levels i h);
+}
+
+pub shows_keys : (sides : Sides) (ends : ℕ → Bool) (g g2 : Graph) (f : List KeyedQuotient) (d : List KeyedChanges) → HaveMoved sides ends g g2 f d → ShowsKeys sides f d
+shows_keys sides ends g g2 f d w = record {
+  above = λ i h.
+      level_keyed sides g2 (blocks_shown f d i) (blocks_shown f d (i + 1)) (labels_shown f d (i + 1)) (key_shown f d (i + 1)) (support_shown f d (i + 1)) w.graph
+      (w.moving.levels i (omega (arith, h))).partition (w.moving.levels (i + 1) h) (λ n. keyed_at sides ends g g2 f d w i n h);
 }

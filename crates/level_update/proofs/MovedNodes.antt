@@ -4,13 +4,14 @@ use Rattle.std.specs.Prelude.{nat_eq, ◌||◌, ◌⊎◌}
 use Rattle.std.proofs.lemmas.Bool.{or_cases, or_left, cases_Bool}
 use Rattle.std.proofs.lemmas.Bool.Decides.{eqb_tells, Decides-eqb}
 use Rattle.std.proofs.lemmas.List.Folds.{list_any-append}
-use Rattle.graph_spec.specs.Graphs.{Graph, has_edge}
+use Rattle.graph_spec.specs.Graphs.{Graph}
 use Rattle.graph_spec.specs.Shapes.{Shape, IsNode, shape_of}
 use Rattle.graph_spec.specs.Members.{at, has}
 use Rattle.label_graph.specs.GraphViews.{label_number}
+use Rattle.bisim_spec.specs.declared.sides.Sides.{Sides}
 use Rattle.bisim_spec.specs.Partitions.{IsPartition}
 use Rattle.bisim_spec.specs.Supports.{edges_between}
-use Rattle.bisim_levels.specs.Keys.{IsKey}
+use Rattle.bisim_levels.specs.SidedKeys.{IsAround, IsKeyBy, IsSidedKey}
 use Rattle.one_spec.specs.EdgeCounts.{AreEdgeCounts}
 use Rattle.keyed_quotient.specs.KeyedQuotients.{KeyedQuotient}
 use Rattle.keyed_quotient.specs.Changes.{KeyedChanges, blocks_as_shown, labels_as_shown, support_as_shown}
@@ -39,8 +40,8 @@ one_of : (o : Option ℕ) (a b : ℕ) → o ≡ Some a → o ≡ Some b → a �
 one_of o a b e f = cc
 
 -- the first number of a key that begins with it
-begins : (own : ℕ → Option ℕ) (base : List (Option ℕ)) (within_distance : ℕ → ℕ → Bool) (n b : ℕ) (key : List ℕ) → IsKey own base within_distance n key → own n ≡ Some b → first_number (Some key) ≡ Some b
-begins own base within_distance n b key k e = ap (λ xs. first_number (Some xs)) k.is ∙ sym k.own_is ∙ e
+begins : (own : ℕ → Option ℕ) (Around : ℕ → ℕ → Type 0) (n b : ℕ) (key : List ℕ) → IsKeyBy own Around n key → own n ≡ Some b → first_number (Some key) ≡ Some b
+begins own Around n b key k e = ap (λ xs. first_number (Some xs)) k.is ∙ sym k.own_is ∙ e
 
 key_of_first : (o : Option (List ℕ)) (number : ℕ) → first_number o ≡ Some number → (numbers : List ℕ) × (o ≡ Some numbers)
 key_of_first None number e = absurd (cc)
@@ -64,9 +65,9 @@ pub counts_same : (g : Graph) (p p2 : List (Option ℕ)) (support support2 : ℕ
     → AreEdgeCounts g p2 support2
 counts_same g p p2 support support2 counts same is = record { each = λ x y. is x y ∙ counts.each x y ∙ ap (λ (q : List (Option ℕ)). edges_between g.edges q x y) (sym same) }
 
-module _ (g : Graph) (f : List KeyedQuotient) (d d1 d2 : List KeyedChanges) (i n own b label : ℕ) (key : List ℕ) (t : AreTwoLevels g f d i)
+module _ (sides : Sides) (g : Graph) (f : List KeyedQuotient) (d d1 d2 : List KeyedChanges) (i n own b label : ℕ) (key : List ℕ) (t : AreTwoLevels g f d i)
     (own_is : at (blocks_shown f d i) n ≡ Some own) (label_is : label_number g n ≡ Some label)
-    (k : IsKey (at (blocks_shown f d i)) (blocks_shown f d i) (has_edge g) n key) (others : AreSameBut (i + 1) d d1) (stays : blocks_shown f d1 (i + 1) ≡ blocks_shown f d (i + 1))
+    (k : IsSidedKey sides (shape_of g) (blocks_shown f d i) n key) (others : AreSameBut (i + 1) d d1) (stays : blocks_shown f d1 (i + 1) ≡ blocks_shown f d (i + 1))
     (block : HasBlock label key b (labels_shown f d (i + 1)) (labels_shown f d1 (i + 1)) (key_shown f d (i + 1)) (key_shown f d1 (i + 1))) (moved : HasMoved g f d1 d2 (i + 1) n b) where
   -- the level below stays
   same_below : changes_at d2 i ≡ changes_at d i
@@ -102,14 +103,14 @@ module _ (g : Graph) (f : List KeyedQuotient) (d d1 d2 : List KeyedChanges) (i n
         let l = t.up.is c number (ap first_number old ∙ first) in
         (l.0, l.1, ap (λ (ls : List (Option ℕ)). at ls c) moved.labels ∙ block.labels_stay c l.0 l.2))
     | inr (same, block_labels) ↦ (
-        let begin : number ≡ own = some_same number own (sym first ∙ ap (λ xs. first_number (Some xs)) same ∙ begins (at (blocks_shown f d i)) (blocks_shown f d i) (has_edge g) n own key k own_is) in
+        let begin : number ≡ own = some_same number own (sym first ∙ ap (λ xs. first_number (Some xs)) same ∙ begins (at (blocks_shown f d i)) (IsAround sides (shape_of g) (blocks_shown f d i)) n own key k own_is) in
         (label, ap (at (labels_shown f d i)) begin ∙ below_label, ap (λ (ls : List (Option ℕ)). at ls c) moved.labels ∙ block_labels))
   ]
 
   -- the block has the node's label
   block_label : at (labels_shown f d2 (i + 1)) b ≡ Some label
   block_label =
-      let l = goes_up b key own block.key_is (begins (at (blocks_shown f d i)) (blocks_shown f d i) (has_edge g) n own key k own_is) in
+      let l = goes_up b key own block.key_is (begins (at (blocks_shown f d i)) (IsAround sides (shape_of g) (blocks_shown f d i)) n own key k own_is) in
       l.2 ∙ ap Some (one_of (at (labels_shown f d i) own) l.0 label l.1 below_label)
 
   kept_labels : (c l : ℕ) → at (labels_shown f d (i + 1)) c ≡ Some l → at (labels_shown f d2 (i + 1)) c ≡ Some l
@@ -143,7 +144,7 @@ module _ (g : Graph) (f : List KeyedQuotient) (d d1 d2 : List KeyedChanges) (i n
   }
 
   -- a node that has a block below
-  pub placed_one : ArePlaced g f d d2 i (n ∷ [])
+  pub placed_one : ArePlaced sides g f d d2 i (n ∷ [])
   placed_one = record {
     levels = two_kept;
     others = λ j ne. moved.others j ne ∙ others j ne;
@@ -156,15 +157,15 @@ module _ (g : Graph) (f : List KeyedQuotient) (d d1 d2 : List KeyedChanges) (i n
           let same : b ≡ c = some_same b c (sym (moved_blocks m ∙ ap (λ x. cond x (Some b) (at (blocks_shown f d (i + 1)) m)) ((Decides-eqb m n).1 s)) ∙ e) in (
             key,
             moved.keys c ∙ ap (key_shown f d1 (i + 1)) (sym same) ∙ block.key_is,
-            subst (λ (x : KeyedChanges). IsKey (at (blocks_as_shown (level_at f i) x)) (blocks_as_shown (level_at f i) x) (has_edge g) m key) (sym same_below)
-                (subst (λ x. IsKey (at (blocks_shown f d i)) (blocks_shown f d i) (has_edge g) x key) (sym s) k),
+            subst (λ (x : KeyedChanges). IsSidedKey sides (shape_of g) (blocks_as_shown (level_at f i) x) m key) (sym same_below)
+                (subst (λ x. IsSidedKey sides (shape_of g) (blocks_shown f d i) x key) (sym s) k),
           );
     };
   }
 
 -- a number that is no node has no block
-pub placed_none : (g : Graph) (f : List KeyedQuotient) (d : List KeyedChanges) (i n : ℕ) → AreTwoLevels g f d i → at (blocks_shown f d i) n ≡ None → ArePlaced g f d d i (n ∷ [])
-placed_none g f d i n t none = record {
+pub placed_none : (sides : Sides) (g : Graph) (f : List KeyedQuotient) (d : List KeyedChanges) (i n : ℕ) → AreTwoLevels g f d i → at (blocks_shown f d i) n ≡ None → ArePlaced sides g f d d i (n ∷ [])
+placed_none sides g f d i n t none = record {
   levels = t;
   others = λ j ne. refl;
   labels = record { kept = λ c l e. e };
@@ -178,8 +179,8 @@ placed_none g f d i n t none = record {
   };
 }
 
-pub placed_start : (g : Graph) (f : List KeyedQuotient) (d : List KeyedChanges) (i : ℕ) → AreTwoLevels g f d i → ArePlaced g f d d i []
-placed_start g f d i t = record {
+pub placed_start : (sides : Sides) (g : Graph) (f : List KeyedQuotient) (d : List KeyedChanges) (i : ℕ) → AreTwoLevels g f d i → ArePlaced sides g f d d i []
+placed_start sides g f d i t = record {
   levels = t;
   others = λ j ne. refl;
   labels = record { kept = λ c l e. e };
@@ -192,9 +193,9 @@ has_more : (xs : List ℕ) (n m : ℕ) → has (xs ++ n ∷ []) m ≡ (has xs m 
 has_more xs n m = list_any-append (nat_eq m) xs (n ∷ [])
 
 -- one more node
-pub placed_next : (g : Graph) (f : List KeyedQuotient) (d d1 d2 : List KeyedChanges) (i n : ℕ) (nodes : List ℕ) → ArePlaced g f d d1 i nodes → ArePlaced g f d1 d2 i (n ∷ [])
-    → ArePlaced g f d d2 i (nodes ++ n ∷ [])
-placed_next g f d d1 d2 i n nodes p q = record {
+pub placed_next : (sides : Sides) (g : Graph) (f : List KeyedQuotient) (d d1 d2 : List KeyedChanges) (i n : ℕ) (nodes : List ℕ) → ArePlaced sides g f d d1 i nodes → ArePlaced sides g f d1 d2 i (n ∷ [])
+    → ArePlaced sides g f d d2 i (nodes ++ n ∷ [])
+placed_next sides g f d d1 d2 i n nodes p q = record {
   levels = q.levels;
   others = λ j ne. q.others j ne ∙ p.others j ne;
   labels = record { kept = λ c l e. q.labels.kept c l (p.labels.kept c l e) };
@@ -210,7 +211,7 @@ placed_next g f d d1 d2 i n nodes p q = record {
           let k = (p.keyed m first).keyed c (sym (q.blocks m off) ∙ e) in (
             k.0,
             q.keys.kept c k.0 k.1,
-            subst (λ (x : KeyedChanges). IsKey (at (blocks_as_shown (level_at f i) x)) (blocks_as_shown (level_at f i) x) (has_edge g) m k.0) (sym (q.others i (lower_apart i))) k.2,
+            subst (λ (x : KeyedChanges). IsSidedKey sides (shape_of g) (blocks_as_shown (level_at f i) x) m k.0) (sym (q.others i (lower_apart i))) k.2,
           );
     }
   ];

@@ -1,7 +1,6 @@
 -- A level on which nodes that get another label are moved, one after the other.
 use Rattle.std.proofs.Common.{◌≡◌, ℕ, ◌+◌, ◌*◌, ◌≤◌, List, [], ◌∷◌, ◌++◌, Some, IsTrue, refl, sym, ◌∙◌, ap, subst, arith, inl, inr, true, false, Bool, cond, true≢false}
 use Rattle.std.specs.Prelude.{nat_eq, ◌&&◌, ◌||◌, not}
-use Rattle.std.specs.List.{IsDistinct, sum_by}
 use Rattle.std.proofs.Math.Bool.{or-true, or-false}
 use Rattle.std.proofs.Math.Nat.{mul-le-mul_left}
 use Rattle.std.proofs.lemmas.Bool.Decides.{eqb_tells}
@@ -9,21 +8,13 @@ use Rattle.std.proofs.lemmas.List.Folds.{list_any-append}
 use Rattle.graph_spec.specs.Graphs.{Graph, is_live}
 use Rattle.graph_spec.specs.Members.{at, has}
 use Rattle.graph_spec.specs.Shapes.{shape_of}
-use Rattle.graph_spec.proofs.GraphLaws.{is_shape}
 use Rattle.label_graph.specs.GraphViews.{label_number}
-use Rattle.bisim_spec.specs.Reach.{within_distance}
-use Rattle.change_spec.proofs.RoundBounds.{round_most}
 use Rattle.one_spec.specs.EdgeCounts.{AreEdgeCounts}
-use Rattle.one_spec.proofs.Sums.{sum_listed}
-use Rattle.graph_update.specs.PendingChanges.{Pending, graph_after}
 use Rattle.graph_effects.specs.Effects.{EffectLists}
 use Rattle.graph_effects.proofs.EffectLaws.{has_last, put_else}
-use Rattle.affected_nodes.proofs.SearchCosts.{StartsAt, below, within_below, within_live}
 use Rattle.keyed_quotient.specs.KeyedQuotients.{KeyedQuotient}
 use Rattle.keyed_quotient.specs.Changes.{KeyedChanges}
-use Rattle.level_spec.proofs.AffectedWeights.{affected_weight}
 use Rattle.ak_family.specs.LevelDrafts.{blocks_shown, labels_shown, support_shown, AreSameBut}
-use Rattle.level_update.specs.LevelCosts.{place_cost, near_cost}
 use Rattle.level_update.specs.LevelEffects.{own_number, lone_nodes, HasOwnKey, IsLevelRelabelled, IsLevelDrafted, IsDraftedBelow, IsNodeJoined}
 use Rattle.level_update.proofs.EffectLevels.{same_some, own_stays, begin_joined, own_joined}
 use Rattle.level_update.proofs.MovedNodes.{partition_put}
@@ -94,17 +85,6 @@ relabelled_done e g2 f d i w = record {
     none false = refl
 
 -- ---- what it costs
-
--- to read the neighbours of some targets
-pub relabel_most : (a : Pending) (targets nodes : List ℕ) (k : ℕ) → StartsAt a (has targets) → IsDistinct nat_eq nodes → ((n : ℕ) → has nodes n ≡ true → has targets n ≡ true)
-    → sum_by (place_cost a) nodes ≤ 3 * near_cost a (has targets) k
-relabel_most a targets nodes k w once among =
-    let s = shape_of (graph_after a) in
-    let listed = sum_listed s.size (within_distance s (has targets) 0) (place_cost a) nodes once (λ n h.
-    (within_below s (has targets) (is_shape (graph_after a) w.left) (below a (has targets) w) 0 n (among n h), among n h)) in
-    let most = round_most a.change a.before (within_distance s (has targets) 0) w.before w.can (λ n h. within_live a (has targets) 0 n w h) in
-    let more = affected_weight s (has targets) 0 k (omega arith) in
-    omega (arith, listed, most, more)
 
 -- at the levels so far, and at all
 pub so_many : (i len each old now : ℕ) → i ≤ len → now ≤ old + i * each → now ≤ old + len * each

@@ -1,9 +1,10 @@
--- What is drafted for a change of the graph of an A(k)-family.
+-- What is drafted for a change of the graph of a family of levels.
 use Rattle.std.specs.Prelude.{◌+◌, ◌*◌, ◌<◌, ℕ, List, length}
 use Rattle.graph_spec.specs.Graphs.{Graph}
+use Rattle.bisim_spec.specs.declared.sides.Sides.{Sides}
 use Rattle.bisim_spec.specs.Fits.{FitsLevel}
 use Rattle.change_spec.specs.Steps.{Step}
-use Rattle.change_spec.specs.Altered.{targets}
+use Rattle.change_spec.specs.Ends.{ends_by}
 use Rattle.quotient.specs.Quotients.{view_of}
 use Rattle.quotient_draft.specs.Drafts.{settled_view}
 use Rattle.keyed_quotient.specs.KeyedQuotients.{KeyedQuotient}
@@ -13,14 +14,14 @@ use Rattle.ak_family.specs.LevelDrafts.{changes_at}
 use Rattle.level_update.specs.LevelCosts.{near_cost}
 
 -- each level is that of the graph
-abbrev pub FamilyFits : Graph → List KeyedQuotient → Type 0
-FamilyFits g f = (i : ℕ) → i < length f → FitsLevel g i (view_of (level_at f i).quotient)
+abbrev pub FamilyFits : Sides → Graph → List KeyedQuotient → Type 0
+FamilyFits sides g f = (i : ℕ) → i < length f → FitsLevel sides g i (view_of (level_at f i).quotient)
 
 -- once the draft is settled, each level is that of the graph
-abbrev pub ShownFit : Graph → List KeyedQuotient → List KeyedChanges → Type 0
-ShownFit g f d = (i : ℕ) → i < length f → FitsLevel g i (settled_view (level_at f i).quotient (changes_at d i).drafted)
+abbrev pub ShownFit : Sides → Graph → List KeyedQuotient → List KeyedChanges → Type 0
+ShownFit sides g f d = (i : ℕ) → i < length f → FitsLevel sides g i (settled_view (level_at f i).quotient (changes_at d i).drafted)
 
 -- how many steps a change may take, where levels up to k are kept: its effects are found, and nodes within k edges of
--- its targets move
-abbrev pub most_steps : Graph → List Step → ℕ → ℕ
-most_steps g c k = 8 * (k + 1) * near_cost (record { before = g; change = c }) (targets c g) k
+-- its ends move
+abbrev pub most_steps : Sides → Graph → List Step → ℕ → ℕ
+most_steps sides g c k = 8 * (k + 1) * near_cost sides (record { before = g; change = c }) (ends_by sides c g) k

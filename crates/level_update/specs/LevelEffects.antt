@@ -1,11 +1,13 @@
 -- What is drafted at a level of a family for the effects of a change, whatever its steps.
-use Rattle.std.specs.Prelude.{⊤, ◌≡◌, ℕ, zero, suc, ◌<◌, ◌≤◌, ◌^◌, ◌&&◌, ◌||◌, not, nat_eq, Bool, List, [], ◌∷◌, ◌++◌, length, Option, Some, None, IsTrue, IsFalse}
+use Rattle.std.specs.Prelude.{⊤, ◌≡◌, ℕ, zero, suc, ◌+◌, ◌<◌, ◌≤◌, ◌^◌, ◌&&◌, ◌||◌, not, nat_eq, Bool, List, [], ◌∷◌, ◌++◌, length, Option, Some, None, IsTrue, IsFalse}
 use Rattle.std.specs.FinSet as set
 use Rattle.graph_spec.specs.Graphs.{Graph, IsGraph}
 use Rattle.graph_spec.specs.Shapes.{IsNode, shape_of}
 use Rattle.graph_spec.specs.Members.{at, has}
 use Rattle.label_graph.specs.GraphViews.{label_number}
+use Rattle.bisim_spec.specs.declared.sides.Sides.{Sides}
 use Rattle.bisim_spec.specs.Partitions.{IsPartition}
+use Rattle.bisim_spec.specs.IndexGraphs.{support_at}
 use Rattle.one_spec.specs.BlockLabels.{BlocksHaveLabelsBut}
 use Rattle.one_spec.specs.EdgeCounts.{AreEdgeCounts}
 use Rattle.graph_update.specs.PendingChanges.{Pending, graph_after}
@@ -15,11 +17,10 @@ use Rattle.quotient.specs.QuotientNeighbours.{RaisesPair, LowersPair}
 use Rattle.quotient_draft.specs.Drafts.{PutsNode}
 use Rattle.keyed_quotient.specs.KeyedQuotients.{KeyedQuotient, key_at}
 use Rattle.keyed_quotient.specs.Changes.{KeyedChanges}
-use Rattle.level_spec.specs.Keyed.{KeysStay, AreLabelled, IsLevelOf, LabelsGoUp}
-use Rattle.ak_family.specs.Families.{level_at, blocks_at, IsKeyedFamily}
+use Rattle.level_spec.specs.Keyed.{IsKeyed, KeysStay, AreLabelled, IsLevelOf, LabelsGoUp}
+use Rattle.ak_family.specs.Families.{level_at, blocks_at}
 use Rattle.ak_family.specs.LevelDrafts.{blocks_shown, labels_shown, support_shown, key_shown, AreOver, KeepsAllButSupports, ShowsBlock}
 use Rattle.level_update.specs.Placed.{LabelsKept}
-use Rattle.level_update.specs.FamilyDrafts.{FamilyFits}
 
 -- a block that has this key has this label
 abbrev pub KeyHasLabel : (ℕ → Option (List ℕ)) → List (Option ℕ) → List ℕ → ℕ → Type 0
@@ -30,10 +31,20 @@ abbrev pub own_number : List KeyedQuotient → List KeyedChanges → ℕ → ℕ
 own_number f d label n zero = Some label
 own_number f d label n (suc i) = at (blocks_shown f d i) n
 
+-- Each level is one of the graph. A key is a label at the lowest level, and above it begins with a block one level below
+-- that has the same label.
+pub record AreBases (g : Graph) (f : List KeyedQuotient) : Type 0 where
+  pub levels : (i : ℕ) → i < length f → IsLevelOf g (blocks_at f i) (level_at f i).quotient.blocks.labels (support_at (level_at f i).quotient.supports)
+  pub lowest : AreLabelled (level_at f 0).quotient.blocks.labels (key_at (level_at f 0).keys)
+  pub up : (i : ℕ) → i + 1 < length f → LabelsGoUp (level_at f i).quotient.blocks.labels (level_at f (i + 1)).quotient.blocks.labels (key_at (level_at f (i + 1)).keys)
+
+-- above the lowest level each node is in the block of its key
+pub record AreKeyedBases (sides : Sides) (g : Graph) (f : List KeyedQuotient) : Type 0 where
+  pub keyed : (i n : ℕ) → i + 1 < length f → IsKeyed sides (shape_of g) (blocks_at f i) (blocks_at f (i + 1)) (key_at (level_at f (i + 1)).keys) n
+
 -- the family is that of the first graph, which has few numbers, and the second has few edges
 pub record AreLevelsBefore (g g2 : Graph) (f : List KeyedQuotient) : Type 0 where
-  pub fits : FamilyFits g f
-  pub family : IsKeyedFamily f
+  pub bases : AreBases g f
   pub some : 0 < length f
   pub graph : IsGraph g
   pub graph_after : IsGraph g2
@@ -118,9 +129,9 @@ abbrev pub HasEdgesRaised : Pending → EffectLists → List KeyedQuotient → L
 HasEdgesRaised a e f d i = IsLevelOnWay (graph_after a) (with_edges (without_edges a.before e.lost) e.added) e.came e.gone f d i
 
 -- Whether nodes keep the keys with which the effects are drafted: no edge comes or goes and no node gets another label,
--- or the graph is altered at none of its nodes.
-abbrev pub keeps_keys : EffectLists → Bool
-keeps_keys e = nat_eq (length e.targets) 0 || ((nat_eq (length e.lost) 0 && nat_eq (length e.added) 0) && nat_eq (length e.relabelled) 0)
+-- or there are no ends at which the graph is altered.
+abbrev pub keeps_keys : List ℕ → EffectLists → Bool
+keeps_keys ends e = nat_eq (length ends) 0 || ((nat_eq (length e.lost) 0 && nat_eq (length e.added) 0) && nat_eq (length e.relabelled) 0)
 
 -- the node is in a block of the level with this label, whose key is this number alone
 pub record IsNodeJoined (f : List KeyedQuotient) (i n label number : ℕ) (d d2 : List KeyedChanges) : Type 0 where

@@ -2,7 +2,8 @@
 use Rattle.std.specs.Prelude.{◌+◌, ◌<◌, ℕ, Bool, List, IsTrue, length}
 use Rattle.graph_spec.specs.Graphs.{Graph}
 use Rattle.graph_spec.specs.Shapes.{shape_of}
-use Rattle.bisim_spec.specs.Reach.{within_distance}
+use Rattle.bisim_spec.specs.declared.sides.Sides.{Sides}
+use Rattle.bisim_spec.specs.SidedLevels.{affected}
 use Rattle.keyed_quotient.specs.KeyedQuotients.{KeyedQuotient, key_at}
 use Rattle.keyed_quotient.specs.Changes.{KeyedChanges}
 use Rattle.ak_family.specs.Families.{level_at, blocks_at}
@@ -11,21 +12,21 @@ use Rattle.level_spec.specs.Keyed.{IsKeyed, KeysStay, SameFar, AreLabelled, IsLe
 
 -- The draft shows the graph after the change at each level: a partition with the labels of members and the numbers of
 -- edges. The keys of blocks begin as they must, blocks of the base keep theirs, and at level i only nodes within i
--- edges of the targets have moved.
-pub record HasMovedAffected (target : ℕ → Bool) (g : Graph) (f : List KeyedQuotient) (d : List KeyedChanges) : Type 0 where
+-- edges of the ends have moved.
+pub record HasMovedAffected (sides : Sides) (ends : ℕ → Bool) (g : Graph) (f : List KeyedQuotient) (d : List KeyedChanges) : Type 0 where
   pub over : AreOver f d
   pub levels : (i : ℕ) → i < length f → IsLevelOf g (blocks_shown f d i) (labels_shown f d i) (support_shown f d i)
   pub lowest : AreLabelled (labels_shown f d 0) (key_shown f d 0)
   pub up : (i : ℕ) → i + 1 < length f → LabelsGoUp (labels_shown f d i) (labels_shown f d (i + 1)) (key_shown f d (i + 1))
   pub stay : (i : ℕ) → i < length f → KeysStay (key_at (level_at f i).keys) (key_shown f d i)
-  pub far : (i : ℕ) → i < length f → SameFar target (shape_of g) i (blocks_at f i) (blocks_shown f d i)
+  pub far : (i : ℕ) → i < length f → SameFar sides ends (shape_of g) i (blocks_at f i) (blocks_shown f d i)
 
 -- above the lowest level each affected node is in the block of its key
-pub record AreKeyedAffected (target : ℕ → Bool) (g : Graph) (f : List KeyedQuotient) (d : List KeyedChanges) : Type 0 where
-  pub each : (i n : ℕ) → i + 1 < length f → IsTrue (within_distance (shape_of g) target (i + 1) n)
-      → IsKeyed (shape_of g) (blocks_shown f d i) (blocks_shown f d (i + 1)) (key_shown f d (i + 1)) n
+pub record AreKeyedAffected (sides : Sides) (ends : ℕ → Bool) (g : Graph) (f : List KeyedQuotient) (d : List KeyedChanges) : Type 0 where
+  pub each : (i n : ℕ) → i + 1 < length f → IsTrue (affected sides (shape_of g) ends (i + 1) n)
+      → IsKeyed sides (shape_of g) (blocks_shown f d i) (blocks_shown f d (i + 1)) (key_shown f d (i + 1)) n
 
 -- each level shows the graph, and the affected nodes are in the blocks of their keys
-pub record AreMoved (target : ℕ → Bool) (g : Graph) (f : List KeyedQuotient) (d : List KeyedChanges) : Type 0 where
-  pub moving : HasMovedAffected target g f d
-  pub keyed : AreKeyedAffected target g f d
+pub record AreMoved (sides : Sides) (ends : ℕ → Bool) (g : Graph) (f : List KeyedQuotient) (d : List KeyedChanges) : Type 0 where
+  pub moving : HasMovedAffected sides ends g f d
+  pub keyed : AreKeyedAffected sides ends g f d

@@ -3,6 +3,7 @@ use Rattle.std.specs.Prelude.{◌≡◌, ◌+◌, ◌<◌, ℕ, List, Option, So
 use Rattle.graph_spec.specs.Graphs.{Graph}
 use Rattle.graph_spec.specs.Shapes.{shape_of}
 use Rattle.graph_spec.specs.Members.{at, has}
+use Rattle.bisim_spec.specs.declared.sides.Sides.{Sides}
 use Rattle.one_spec.specs.EdgeCounts.{AreEdgeCounts}
 use Rattle.quotient_draft.specs.Drafts.{PutsNode}
 use Rattle.keyed_quotient.specs.KeyedQuotients.{KeyedQuotient}
@@ -33,10 +34,10 @@ pub record HasMoved (g : Graph) (f : List KeyedQuotient) (d d2 : List KeyedChang
 
 -- At the level above i these nodes are in the blocks of their keys now, and the others stayed. Blocks kept their labels
 -- and keys.
-pub record ArePlaced (g : Graph) (f : List KeyedQuotient) (d d2 : List KeyedChanges) (i : ℕ) (nodes : List ℕ) : Type 0 where
+pub record ArePlaced (sides : Sides) (g : Graph) (f : List KeyedQuotient) (d d2 : List KeyedChanges) (i : ℕ) (nodes : List ℕ) : Type 0 where
   pub levels : AreTwoLevels g f d2 i
   pub others : AreSameBut (i + 1) d d2
   pub labels : LabelsKept (labels_shown f d (i + 1)) (labels_shown f d2 (i + 1))
   pub keys : KeysStay (key_shown f d (i + 1)) (key_shown f d2 (i + 1))
   pub blocks : (n : ℕ) → IsFalse (has nodes n) → at (blocks_shown f d2 (i + 1)) n ≡ at (blocks_shown f d (i + 1)) n
-  pub keyed : (n : ℕ) → IsTrue (has nodes n) → IsKeyed (shape_of g) (blocks_shown f d2 i) (blocks_shown f d2 (i + 1)) (key_shown f d2 (i + 1)) n
+  pub keyed : (n : ℕ) → IsTrue (has nodes n) → IsKeyed sides (shape_of g) (blocks_shown f d2 i) (blocks_shown f d2 (i + 1)) (key_shown f d2 (i + 1)) n

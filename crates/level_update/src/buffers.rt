@@ -9,6 +9,7 @@ use std::marker::Model;
 pub(crate) struct Buffers {
     pub(crate) key: Vec<u32>,
     pub(crate) parents: Vec<NodeId>,
+    pub(crate) children: Vec<NodeId>,
     pub(crate) neighbours: NodeNeighbours,
 }
 
@@ -26,6 +27,7 @@ impl Buffers {
         Buffers {
             key: Vec::new(alloc),
             parents: Vec::new(alloc),
+            children: Vec::new(alloc),
             neighbours: NodeNeighbours::new(alloc),
         }
     }

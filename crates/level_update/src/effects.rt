@@ -5,9 +5,10 @@ ghost use Rattle.graph_update.specs.PendingChanges.{graph_after};
 ghost use Rattle.graph_effects.specs.Effects.{AreEffects};
 ghost use Rattle.keyed_quotient.specs.Changes.{no_keyed_changes};
 ghost use Rattle.ak_family.specs.LevelDrafts.{changes_at, AreOver, AreSameBut, AreEmpty};
-ghost use Rattle.level_update.specs.LevelCosts.{place_cost, most_draft_steps};
+ghost use Rattle.graph_effects.specs.StepEffects.{ends_of};
+ghost use Rattle.level_update.specs.LevelCosts.{move_cost, most_draft_steps};
 ghost use Rattle.level_update.specs.MovedLevels.{AreMoved};
-ghost use Rattle.level_update.specs.LevelEffects.{AreLevelsBefore, IsDraftedBelow, IsLevelRelabelled, IsLevelDrafted, AreLevelsDrafted, lone_nodes, keeps_keys};
+ghost use Rattle.level_update.specs.LevelEffects.{AreLevelsBefore, AreKeyedBases, IsDraftedBelow, IsLevelRelabelled, IsLevelDrafted, AreLevelsDrafted, lone_nodes, keeps_keys};
 
 use crate::counting::{lower_edges, raise_edges};
 use crate::joining::join_nodes;
@@ -15,9 +16,10 @@ use crate::leaving::leave_nodes;
 use crate::moving::move_affected;
 use crate::relabelling::relabel_nodes;
 use ak_family::{AkDraft, AkFamily};
+use bisim_spec::Sides;
 use graph_effects::Effects;
 use graph_update::After;
-use px_base::{Memory, Steps};
+use px_base::{Memory, NodeId, Steps};
 use quotient_moves::NodeNeighbours;
 use std::alloc::Global;
 use std::sync::ledger::Ledger;
@@ -67,7 +69,7 @@ fn draft_whole<L: Ledger>(
     ensures drafted { OnOk result (IsLevelDrafted (lone_nodes effects.now) (graph_after after.now) family.now draft.new i) }
     ensures over { OnOk result (AreOver family.now draft.new) }
     ensures others { AreSameBut i draft.old draft.new }
-    ensures cost { steps.new ≤ steps.old + sum_by (place_cost after.now) effects.now.relabelled }
+    ensures cost { steps.new ≤ steps.old + sum_by (move_cost after.now) effects.now.relabelled }
 {
     draft_level(family, draft, i, after, effects)?;
     relabel_nodes(family, draft, i, after, effects, neighbours, steps)?;
@@ -90,7 +92,7 @@ fn draft_levels<L: Ledger>(
     requires over { AreOver family.now draft.old }
     requires empty { AreEmpty draft.old }
     ensures drafted { OnOk result (AreLevelsDrafted (lone_nodes effects.now) (graph_after after.now) family.now draft.new) }
-    ensures cost { steps.new ≤ steps.old + length family.now * sum_by (place_cost after.now) effects.now.relabelled }
+    ensures cost { steps.new ≤ steps.old + length family.now * sum_by (move_cost after.now) effects.now.relabelled }
 {
     let mut neighbours = NodeNeighbours::new(alloc);
     'levels: for i in 0..family.k() + 1 {
@@ -100,39 +102,44 @@ fn draft_levels<L: Ledger>(
 }
 
 // Whether nodes keep the keys with which the effects are drafted.
-fn keeps_keys(effects: &Effects) -> bool
-    ensures { result ≡ keeps_keys effects.now }
+fn keeps_keys(ends: &[NodeId], effects: &Effects) -> bool
+    ensures { result ≡ keeps_keys ends.now effects.now }
 {
-    effects.targets().is_empty()
+    ends.is_empty()
         || ((effects.lost().is_empty() && effects.added().is_empty())
             && effects.relabelled().is_empty())
 }
 
-/// Drafts what a change with these effects makes of a family: the effects at each level, and then the moves of the nodes
-/// that they affect. It takes at most `(6 * k + 4) * w` steps, where `k` is the highest level, and `w` is what the change
-/// costs at the nodes within `k` edges of a target. Where no edge comes or goes and no node gets another label, no node
-/// moves: one that comes is in the block of its own number alone.
+/// Drafts what a change with these effects, which alters what counts at these ends, makes of a family: the effects at each
+/// level, and then the moves of the nodes that they affect. For each side that counts it takes at most `(6 * k + 4) * w`
+/// steps, where `k` is the highest level, and `w` is what the change costs at the nodes within `k` edges of an end. Where
+/// no edge comes or goes and no node gets another label, no node moves: one that comes is in the block of its own number
+/// alone.
 pub(crate) fn draft_effects<L: Ledger>(
     alloc: Global,
     family: &AkFamily,
     draft: &mut AkDraft,
+    sides: Sides,
     after: &After<'_>,
     effects: &Effects,
+    ends: &[NodeId],
     steps: &mut Steps<L>,
 ) -> Result<(), Memory>
     requires before { AreLevelsBefore after.now.before (graph_after after.now) family.now }
+    requires keyed { AreKeyedBases sides after.now.before family.now }
     requires effects { AreEffects after.now.before (graph_after after.now) effects.now }
+    requires ends { ends.now ≡ ends_of sides (graph_after after.now) effects.now }
     requires over { AreOver family.now draft.old }
     requires empty { AreEmpty draft.old }
-    ensures moved { OnOk result (AreMoved (has effects.now.targets) (graph_after after.now) family.now draft.new) }
-    ensures cost { (k : ℕ) → length family.now ≡ k + 1 → steps.new ≤ steps.old + most_draft_steps after.now (has effects.now.targets) k }
+    ensures moved { OnOk result (AreMoved sides (has ends.now) (graph_after after.now) family.now draft.new) }
+    ensures cost { (k : ℕ) → length family.now ≡ k + 1 → steps.new ≤ steps.old + most_draft_steps sides after.now (has ends.now) k }
 {
     // Called for its contract: there is a graph, so what is affected is among its nodes.
     let _known = after.created();
     draft_levels(alloc, family, draft, after, effects, steps)?;
-    if keeps_keys(effects) {
+    if keeps_keys(ends, effects) {
         return Ok(());
     }
-    move_affected(alloc, family, draft, after, effects.targets(), steps)?;
+    move_affected(alloc, family, draft, sides, after, ends, steps)?;
     Ok(())
 }

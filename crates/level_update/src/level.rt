@@ -7,6 +7,7 @@ ghost use Rattle.level_update.specs.LevelCosts.{place_cost};
 use crate::buffers::Buffers;
 use crate::placing::place;
 use ak_family::{AkDraft, AkFamily};
+use bisim_spec::Sides;
 use graph_update::After;
 use px_base::{Memory, NodeId, Steps};
 use std::sync::ledger::Ledger;
@@ -16,17 +17,18 @@ pub(crate) fn place_all<L: Ledger>(
     family: &AkFamily,
     draft: &mut AkDraft,
     i: u32,
+    sides: Sides,
     after: &After<'_>,
     nodes: &[NodeId],
     buffers: &mut Buffers,
     steps: &mut Steps<L>,
 ) -> Result<(), Memory>
     requires levels { AreTwoLevels (graph_after after.now) family.now draft.old i }
-    ensures placed { OnOk result (ArePlaced (graph_after after.now) family.now draft.old draft.new i nodes.now) }
-    ensures cost { steps.new ≤ steps.old + sum_by (place_cost after.now) nodes.now }
+    ensures placed { OnOk result (ArePlaced sides (graph_after after.now) family.now draft.old draft.new i nodes.now) }
+    ensures cost { steps.new ≤ steps.old + sum_by (place_cost sides after.now) nodes.now }
 {
     for n in nodes {
-        place(family, draft, i, after, *n, buffers, steps)?;
+        place(family, draft, i, sides, after, *n, buffers, steps)?;
     }
     Ok(())
 }

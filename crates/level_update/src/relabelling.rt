@@ -7,7 +7,7 @@ ghost use Rattle.one_spec.specs.EdgeCounts.{AreEdgeCounts};
 ghost use Rattle.graph_update.specs.PendingChanges.{graph_after};
 ghost use Rattle.graph_effects.specs.Effects.{AreEffects};
 ghost use Rattle.ak_family.specs.LevelDrafts.{blocks_shown, labels_shown, support_shown, key_shown, AreOver, AreSameBut};
-ghost use Rattle.level_update.specs.LevelCosts.{place_cost};
+ghost use Rattle.level_update.specs.LevelCosts.{move_cost};
 ghost use Rattle.level_update.specs.LevelEffects.{KeyHasLabel, lone_nodes, IsDraftedBelow, IsLevelRelabelled, IsNodeJoined};
 
 use crate::joining::{first_number, lone_block};
@@ -40,7 +40,7 @@ fn relabel_node<L: Ledger>(
     ensures joined { OnOk result (IsNodeJoined family.now i n label number draft.old draft.new) }
     ensures supports { OnOk result (AreEdgeCounts (graph_after after.now) (blocks_shown family.now draft.new i) (support_shown family.now draft.new i)) }
     ensures others { AreSameBut i draft.old draft.new }
-    ensures cost { steps.new ≤ steps.old + place_cost after.now n }
+    ensures cost { steps.new ≤ steps.old + move_cost after.now n }
 {
     let b = lone_block(family, draft, i, label, number)?;
     let to = LevelBlock { level: i, block: b };
@@ -65,7 +65,7 @@ pub(crate) fn relabel_nodes<L: Ledger>(
     requires start { IsLevelRelabelled effects.now [] (graph_after after.now) family.now draft.old i }
     ensures drafted { OnOk result (IsLevelRelabelled effects.now effects.now.relabelled (graph_after after.now) family.now draft.new i) }
     ensures others { AreSameBut i draft.old draft.new }
-    ensures cost { steps.new ≤ steps.old + sum_by (place_cost after.now) effects.now.relabelled }
+    ensures cost { steps.new ≤ steps.old + sum_by (move_cost after.now) effects.now.relabelled }
 {
     let list = effects.relabelled();
     'moves: for n in list {

@@ -1,6 +1,6 @@
 -- What the tables say of pairs that can be merged.
 use Rattle.std.proofs.Common.{◌≡◌, ◌≢◌, ℕ, zero, suc, ◌+◌, ◌<◌, ◌≤◌, ◌⊎◌, List, [], ◌∷◌, ◌++◌, length, take, Option, Some, None, IsTrue, refl, sym, ◌∙◌, ap, subst, arith, inl, inr, true, false, Bool, true≢false}
-use Rattle.std.specs.Prelude.{nat_eq, nat_lt, ◌||◌, ◌&&◌, not, IfNone, IfSome, IfOk, Result, Ok, Err, get_or, cond}
+use Rattle.std.specs.Prelude.{nat_eq, nat_lt, ◌||◌, ◌&&◌, not, IfNone, IfSome, get_or, cond}
 use Rattle.std.specs.List.{list_any}
 use Rattle.std.proofs.lemmas.Bool.{cases_Bool, both_ways, or_cases, or_left, or_right, and_parts}
 use Rattle.std.proofs.lemmas.Bool.Decides.{Decides-eqb, eqb_tells}
@@ -106,18 +106,17 @@ unmergeable_by p labels adjacent a x ne parent here children b = λ s v can. eli
   | inr k ↦ children b (v.into x b k) s v can
 ]
 
-pub none_mergeable_near : {E : Type 0} (r : Result (Option ℕ) E) (p : List (Option ℕ)) (labels : ℕ → Option ℕ) (support base_support : ℕ → ℕ → ℕ) (a x : ℕ) (ys drafted : List ℕ) → x ≢ a
+pub none_mergeable_near : (o : Option ℕ) (p : List (Option ℕ)) (labels : ℕ → Option ℕ) (support base_support : ℕ → ℕ → ℕ) (a x : ℕ) (ys drafted : List ℕ) → x ≢ a
     → IsTrue (nat_lt 0 (support x a)) → AreNotMergeable p labels (λ y z. nat_lt 0 (support y z)) a x → Lists (λ b. nat_lt 0 (base_support x b)) ys
     → ((b : ℕ) → has drafted b ≡ false → support x b ≡ base_support x b) → ((b : ℕ) → IsTrue (has ys b) → AreNotMergeable p labels (λ y z. nat_lt 0 (support y z)) a b)
-    → IfOk r (λ o. IfNone o ((b : ℕ) → IsTrue (has drafted b) → AreNotMergeable p labels (λ y z. nat_lt 0 (support y z)) a b))
-    → IfOk r (λ o. IfNone o ((b : ℕ) → AreNotMergeable p labels (λ y z. nat_lt 0 (support y z)) a b))
-none_mergeable_near (Ok None) p labels support base_support a x ys drafted ne parent here children same in_base among =
+    → IfNone o ((b : ℕ) → IsTrue (has drafted b) → AreNotMergeable p labels (λ y z. nat_lt 0 (support y z)) a b)
+    → IfNone o ((b : ℕ) → AreNotMergeable p labels (λ y z. nat_lt 0 (support y z)) a b)
+none_mergeable_near None p labels support base_support a x ys drafted ne parent here children same in_base among =
     unmergeable_by p labels (λ y z. nat_lt 0 (support y z)) a x ne parent here (λ b j. elim (cases_Bool (has drafted b)) [
       | inl there ↦ among b there
       | inr off ↦ in_base b (children.members b ∙ sym (ap (nat_lt 0) (same b off)) ∙ j)
     ])
-none_mergeable_near (Ok (Some c)) p labels support base_support a x ys drafted ne parent here children same in_base among = among
-none_mergeable_near (Err e) p labels support base_support a x ys drafted ne parent here children same in_base among = among
+none_mergeable_near (Some c) p labels support base_support a x ys drafted ne parent here children same in_base among = among
 
 pub if_none : {X : Type 0} (o : Option X) (P : Type 0) → o ≡ None → IfNone o P → P
 if_none None P e h = h
@@ -258,6 +257,10 @@ put_free (x ∷ xs) (suc n) v (suc b) l free h = put_free xs n v b l free h
 base_kept : (labels : List (Option ℕ)) (es : List (ℕ × ℕ)) (b l : ℕ) → AreLeastFree labels es → at labels b ≡ Some l → at (with_added labels es) b ≡ Some l
 base_kept labels [] b l h k = k
 base_kept labels (e ∷ es) b l h k = base_kept (put labels e.0 e.1) es b l h.1 (put_free labels e.0 e.1 b l h.0.free k)
+
+-- a block of the base has its label as shown
+pub same_label : (labels : List (Option ℕ)) (es : List (ℕ × ℕ)) (b l label : ℕ) → AreLeastFree labels es → at labels b ≡ Some l → l ≡ label → at (with_added labels es) b ≡ Some label
+same_label labels es b l label h k e = base_kept labels es b l h k ∙ ap (λ m. Some m) e
 
 -- a block of the base whose label is another has another one as shown
 pub other_label : (labels : List (Option ℕ)) (es : List (ℕ × ℕ)) (b l label : ℕ) → AreLeastFree labels es → at labels b ≡ Some l → l ≢ label → at (with_added labels es) b ≢ Some label

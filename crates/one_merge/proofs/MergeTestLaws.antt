@@ -1,8 +1,8 @@
 -- Two blocks can be merged exactly where the tables say so.
 use Rattle.std.proofs.Common.{◌≡◌, ◌≢◌, ℕ, ◌↔◌, List, [], ◌∷◌, Option, Some, None, IsTrue, refl, sym, ◌∙◌, ap, subst, inl, inr, true, false, Bool, cond}
-use Rattle.std.specs.Prelude.{nat_eq, ◌||◌, ◌&&◌, not}
-use Rattle.std.specs.List.{list_all, list_any}
-use Rattle.std.proofs.lemmas.Bool.{cases_Bool, both_ways, or_cases, or_left, or_right, and_parts, and_from}
+use Rattle.std.specs.Prelude.{nat_eq, nat_lt, ◌||◌, ◌&&◌, not}
+use Rattle.std.specs.List.{list_any}
+use Rattle.std.proofs.lemmas.Bool.{cases_Bool, both_ways, or_cases, or_left, or_right, and_parts}
 use Rattle.std.proofs.lemmas.Bool.Decides.{Decides-eqb, eqb_tells}
 use Rattle.graph_spec.specs.Shapes.{Shape}
 use Rattle.graph_spec.specs.Members.{at, has, Lists}
@@ -124,26 +124,6 @@ module _ (s : Shape) (p : List (Option ℕ)) (labels : ℕ → Option ℕ) (adja
         }),
       )
 
-all_get : (q : ℕ → Bool) (xs : List ℕ) (x : ℕ) → list_all q xs ≡ true → has xs x ≡ true → q x ≡ true
-all_get q [] x h k = absurd (cc)
-all_get q (y ∷ ys) x h k =
-    let both = and_parts (q y) (list_all q ys) h in
-    elim (or_cases (nat_eq x y) (has ys x) k) [
-      | inl here ↦ ap q ((Decides-eqb x y).0 here) ∙ both.0
-      | inr there ↦ all_get q ys x both.1 there
-    ]
-
-all_from : (q : ℕ → Bool) (xs : List ℕ) → ((x : ℕ) → has xs x ≡ true → q x ≡ true) → list_all q xs ≡ true
-all_from q [] h = refl
-all_from q (y ∷ ys) h = and_from (q y) (list_all q ys) (h y (or_left (nat_eq y y) (has ys y) (same_is y y refl))) (all_from q ys (λ x k. h x (or_right (nat_eq x y) (has ys x) k)))
-
--- parents that are listed are all met, or not
-pub covered_listed : (adjacent : ℕ → ℕ → Bool) (a b c d : ℕ) (xs : List ℕ) → Lists (λ x. adjacent x c) xs → list_all (adjacent_merged adjacent a b d) xs ≡ true → AreParentsSatisfied adjacent a b c d
-covered_listed adjacent a b c d xs lists all = record { each = λ x j. all_get (adjacent_merged adjacent a b d) xs x all (lists.members x ∙ j) }
-
-listed_covered : (adjacent : ℕ → ℕ → Bool) (a b c d : ℕ) (xs : List ℕ) → Lists (λ x. adjacent x c) xs → AreParentsSatisfied adjacent a b c d → list_all (adjacent_merged adjacent a b d) xs ≡ true
-listed_covered adjacent a b c d xs lists covered = all_from (adjacent_merged adjacent a b d) xs (λ x h. covered.each x (sym (lists.members x) ∙ h))
-
 pub mergeable_from : (p : List (Option ℕ)) (labels : ℕ → Option ℕ) (adjacent : ℕ → ℕ → Bool) (a b : ℕ) → a ≢ b → ((n : ℕ) × (at p n ≡ Some a)) → ((n : ℕ) × (at p n ≡ Some b)) → labels a ≡ labels b
     → AreParentsSatisfied adjacent a b a b → AreParentsSatisfied adjacent a b b a → AreMergeable p labels adjacent a b
 mergeable_from p labels adjacent a b ne first second label there back = record {
@@ -153,21 +133,6 @@ mergeable_from p labels adjacent a b ne first second label there back = record {
   label = label;
   can = λ s v. (mergeable_by_tables s p labels adjacent a b v first.0 second.0 first.1 second.1).1 (label, there, back);
 }
-
-pub unmergeable_label : (p : List (Option ℕ)) (labels : ℕ → Option ℕ) (adjacent : ℕ → ℕ → Bool) (a b : ℕ) → labels a ≢ labels b → AreNotMergeable p labels adjacent a b
-unmergeable_label p labels adjacent a b ne s v can = ne ((mergeable_by_tables s p labels adjacent a b v can.first.0 can.second.0 can.first.1 can.second.1).0 can.can).0
-
-pub unmergeable_there : (p : List (Option ℕ)) (labels : ℕ → Option ℕ) (adjacent : ℕ → ℕ → Bool) (a b : ℕ) (xs : List ℕ) → Lists (λ x. adjacent x a) xs → list_all (adjacent_merged adjacent a b b) xs ≡ false
-    → AreNotMergeable p labels adjacent a b
-unmergeable_there p labels adjacent a b xs lists off s v can =
-    both_ways (list_all (adjacent_merged adjacent a b b) xs) off
-    (listed_covered adjacent a b a b xs lists ((mergeable_by_tables s p labels adjacent a b v can.first.0 can.second.0 can.first.1 can.second.1).0 can.can).1)
-
-pub unmergeable_back : (p : List (Option ℕ)) (labels : ℕ → Option ℕ) (adjacent : ℕ → ℕ → Bool) (a b : ℕ) (xs : List ℕ) → Lists (λ x. adjacent x b) xs → list_all (adjacent_merged adjacent a b a) xs ≡ false
-    → AreNotMergeable p labels adjacent a b
-unmergeable_back p labels adjacent a b xs lists off s v can =
-    both_ways (list_all (adjacent_merged adjacent a b a) xs) off
-    (listed_covered adjacent a b b a xs lists ((mergeable_by_tables s p labels adjacent a b v can.first.0 can.second.0 can.first.1 can.second.1).0 can.can).2)
 
 -- one parent of the second that isn't met rules the pair out
 pub unmergeable_unsatisfied : (p : List (Option ℕ)) (labels : ℕ → Option ℕ) (adjacent : ℕ → ℕ → Bool) (a b : ℕ) → ((x : ℕ) × IsTrue (adjacent x b) × (adjacent_merged adjacent a b a x ≡ false)) → AreNotMergeable p labels adjacent a b
@@ -188,3 +153,54 @@ unsatisfied_get adjacent a b (x ∷ xs) h = elim (or_cases (adjacent x b && not 
   | inl here ↦ (let both = and_parts (adjacent x b) (not (adjacent_merged adjacent a b a x)) here in (x, both.0, not_true (adjacent_merged adjacent a b a x) both.1))
   | inr there ↦ unsatisfied_get adjacent a b xs there
 ]
+
+none_of : (p q : Bool) → (p || q) ≡ false → (p ≡ false) × (q ≡ false)
+none_of true q h = absurd (cc)
+none_of false true h = absurd (cc)
+none_of false false h = (refl, refl)
+
+satisfied_one : (p q : Bool) → (p && not q) ≡ false → p ≡ true → q ≡ true
+satisfied_one p true h k = refl
+satisfied_one true false h k = absurd (cc)
+satisfied_one false false h k = absurd (cc)
+
+-- where no parent of a list is unsatisfied, each is satisfied
+satisfied_of : (adjacent : ℕ → ℕ → Bool) (a b : ℕ) (xs : List ℕ) → list_any (λ x. adjacent x b && not (adjacent_merged adjacent a b a x)) xs ≡ false
+    → (x : ℕ) → has xs x ≡ true → IsTrue (adjacent x b) → IsTrue (adjacent_merged adjacent a b a x)
+satisfied_of adjacent a b [] h x k j = absurd (cc)
+satisfied_of adjacent a b (y ∷ ys) h x k j =
+    let none = none_of (adjacent y b && not (adjacent_merged adjacent a b a y)) (list_any (λ z. adjacent z b && not (adjacent_merged adjacent a b a z)) ys) h in
+    elim (or_cases (nat_eq x y) (has ys x) k) [
+      | inl here ↦ (
+          let same : x ≡ y = (Decides-eqb x y).0 here in
+          subst (λ z. IsTrue (adjacent_merged adjacent a b a z)) (sym same)
+          (satisfied_one (adjacent y b) (adjacent_merged adjacent a b a y) none.0 (subst (λ z. IsTrue (adjacent z b)) same j)))
+      | inr there ↦ satisfied_of adjacent a b ys none.1 x there j
+    ]
+
+-- and so are all parents, where those that aren't drafted are listed as the base has them
+pub all_satisfied : (support base_support : ℕ → ℕ → ℕ) (a b : ℕ) (xs drafted : List ℕ) → Lists (λ x. nat_lt 0 (base_support x b)) xs → ((x : ℕ) → has drafted x ≡ false → support x b ≡ base_support x b)
+    → list_any (λ x. nat_lt 0 (support x b) && not (adjacent_merged (λ y z. nat_lt 0 (support y z)) a b a x)) xs ≡ false
+    → list_any (λ x. nat_lt 0 (support x b) && not (adjacent_merged (λ y z. nat_lt 0 (support y z)) a b a x)) drafted ≡ false
+    → AreParentsSatisfied (λ y z. nat_lt 0 (support y z)) a b b a
+all_satisfied support base_support a b xs drafted parents same in_base among = record {
+  each = λ x j. elim (cases_Bool (has drafted x)) [
+    | inl there ↦ satisfied_of (λ y z. nat_lt 0 (support y z)) a b drafted among x there j
+    | inr off ↦ satisfied_of (λ y z. nat_lt 0 (support y z)) a b xs in_base x (parents.members x ∙ sym (ap (nat_lt 0) (same x off)) ∙ j) j
+  ];
+}
+
+or_swap : (p q : Bool) → (p || q) ≡ (q || p)
+or_swap true true = refl
+or_swap true false = refl
+or_swap false true = refl
+or_swap false false = refl
+
+-- the order of the two that count as one makes no difference
+pub satisfied_swap : (adjacent : ℕ → ℕ → Bool) (a b c d : ℕ) → AreParentsSatisfied adjacent b a c d → AreParentsSatisfied adjacent a b c d
+satisfied_swap adjacent a b c d h = record { each = λ x j. same x ∙ h.each x j }
+  where
+    same : (x : ℕ) → adjacent_merged adjacent a b d x ≡ adjacent_merged adjacent b a d x
+    same x =
+        ap (λ t. cond t (adjacent a d || adjacent b d) (adjacent x d)) (or_swap (nat_eq x a) (nat_eq x b))
+        ∙ ap (λ t. cond (nat_eq x b || nat_eq x a) t (adjacent x d)) (or_swap (adjacent a d) (adjacent b d))

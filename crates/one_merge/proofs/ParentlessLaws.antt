@@ -1,6 +1,6 @@
 -- Blocks to which no other block has support.
 use Rattle.std.proofs.Common.{◌≡◌, ◌≢◌, ℕ, zero, suc, ◌+◌, List, [], ◌∷◌, Option, Some, None, IsTrue, is_some, refl, sym, ◌∙◌, ap, subst, arith, inl, inr, true, false, Bool, count_by, true≢false}
-use Rattle.std.specs.Prelude.{nat_eq, nat_lt, cond, slice_index_or, IfNone, IfOk, Result, Ok, Err}
+use Rattle.std.specs.Prelude.{nat_eq, nat_lt, cond, slice_index_or, IfNone}
 use Rattle.std.specs.List.{list_all, position, swap_remove}
 use Rattle.std.proofs.lemmas.Bool.{cases_Bool, both_ways, or_cases, or_left, or_right, and_from}
 use Rattle.std.proofs.lemmas.Bool.Decides.{Decides-eqb, Decides-ltb, eqb_tells}
@@ -79,13 +79,12 @@ unmergeable_lone q d parentless a label list lone own covers are among b s v can
       ])
     ]
 
-pub none_mergeable_lone : {E : Type 0} (r : Result (Option ℕ) E) (q : Quotient) (d : Drafted) (parentless : ParentlessLists) (a label : ℕ) (list : List ℕ)
+pub none_mergeable_lone : (o : Option ℕ) (q : Quotient) (d : Drafted) (parentless : ParentlessLists) (a label : ℕ) (list : List ℕ)
     → ((x : ℕ) → IsTrue (shown_adjacent q d x a) → x ≡ a) → at (shown_labels q d) a ≡ Some label → CoversShown q d parentless
     → AreCandidates (shown_support q d) parentless a label list
-    → IfOk r (λ o. IfNone o ((b : ℕ) → IsTrue (has list b) → AreShownNotMergeable q d a b)) → IfOk r (λ o. IfNone o ((b : ℕ) → AreShownNotMergeable q d a b))
-none_mergeable_lone (Ok None) q d parentless a label list lone own covers are among = unmergeable_lone q d parentless a label list lone own covers are among
-none_mergeable_lone (Ok (Some c)) q d parentless a label list lone own covers are among = among
-none_mergeable_lone (Err e) q d parentless a label list lone own covers are among = among
+    → IfNone o ((b : ℕ) → IsTrue (has list b) → AreShownNotMergeable q d a b) → IfNone o ((b : ℕ) → AreShownNotMergeable q d a b)
+none_mergeable_lone None q d parentless a label list lone own covers are among = unmergeable_lone q d parentless a label list lone own covers are among
+none_mergeable_lone (Some c) q d parentless a label list lone own covers are among = among
 
 -- what is noted stays covered
 pub covers_kept : (labels : ℕ → Option ℕ) (support : ℕ → ℕ → ℕ) (parentless parentless2 : ParentlessLists) → ((l c : ℕ) → IsNoted parentless l c → IsNoted parentless2 l c) → CoversParentless labels support parentless

@@ -15,37 +15,21 @@ use label_graph::Digraph;
 use px_base::Memory;
 use quotient::Summary;
 use quotient_draft::{Draft, base_children, base_parents};
-use std::alloc::Global;
-
-/// Lists of blocks, in memory that is reused.
-#[derive(Drop)]
-pub(crate) struct Buffers {
-    pub(crate) children: Vec<u32>,
-    pub(crate) others: Vec<u32>,
-}
-
-impl Buffers {
-    pub(crate) fn new(alloc: Global) -> Buffers {
-        Buffers {
-            children: Vec::new(alloc),
-            others: Vec::new(alloc),
-        }
-    }
-}
 
 // Whether the number is that of a block with this label. Blocks of the base keep their labels, so the draft,
 // which is looked up by hash, is asked for others alone.
 fn is_labelled(base: &Summary, draft: &Draft, b: u32, label: u32) -> bool
     requires over { IsOver base.now.blocks.block_of base.now.blocks.labels draft.now }
+    ensures yes { IsTrue result → at (shown_labels base.now draft.now) b ≡ Some label }
     ensures no { IsFalse result → at (shown_labels base.now draft.now) b ≢ Some label }
 {
     if base.is_block(b) {
         return base.label(b) == label;
     }
-    if !draft.is_block(base, b) {
-        return false;
+    match draft.label_of(base, b) {
+        Some(l) => l == label,
+        None => false,
     }
-    draft.label(base, b) == label
 }
 
 // Whether one of the blocks is other than these two and in neither list.
@@ -89,34 +73,27 @@ fn has_unshared_parent(base: &Summary, draft: &Draft, a: u32, b: u32) -> bool
 
 // Whether two blocks, of which the first has members and this label, differ and can be merged. Most blocks have another
 // label or another parent, so these are tested first.
-fn is_mergeable(
-    base: &Summary,
-    draft: &Draft,
-    a: u32,
-    label: u32,
-    b: u32,
-    others: &mut Vec<u32>,
-) -> Result<bool, Memory>
+fn is_mergeable(base: &Summary, draft: &Draft, a: u32, label: u32, b: u32) -> bool
     requires over { IsOver base.now.blocks.block_of base.now.blocks.labels draft.now }
     requires graph { ShowsSupportsOfGraph base.now draft.now }
     requires members { (n : ℕ) × (at (shown_blocks base.now draft.now) n ≡ Some a) }
     requires label { at (shown_labels base.now draft.now) a ≡ Some label }
-    ensures yes { IfOk result (λ can. IsTrue can → AreShownMergeable base.now draft.now a b) }
-    ensures no { IfOk result (λ can. IsFalse can → AreShownNotMergeable base.now draft.now a b) }
+    ensures yes { IsTrue result → AreShownMergeable base.now draft.now a b }
+    ensures no { IsFalse result → AreShownNotMergeable base.now draft.now a b }
 {
     if a == b {
-        return Ok(false);
+        return false;
     }
     if !is_labelled(base, draft, b, label) {
-        return Ok(false);
+        return false;
     }
     if has_unshared_parent(base, draft, a, b) {
-        return Ok(false);
+        return false;
     }
     if !has_members(base, draft, b) {
-        return Ok(false);
+        return false;
     }
-    can_merge(base, draft, a, b, others)
+    can_merge(base, draft, a, b)
 }
 
 // Whether x is other than a and has support to it as shown.
@@ -193,26 +170,20 @@ fn other_parent(base: &Summary, draft: &Draft, a: u32) -> Option<u32>
 }
 
 // A block among these with which the first can be merged.
-fn find_among(
-    base: &Summary,
-    draft: &Draft,
-    a: u32,
-    blocks: &[u32],
-    others: &mut Vec<u32>,
-) -> Result<Option<u32>, Memory>
+fn find_among(base: &Summary, draft: &Draft, a: u32, blocks: &[u32]) -> Option<u32>
     requires over { IsOver base.now.blocks.block_of base.now.blocks.labels draft.now }
     requires graph { ShowsSupportsOfGraph base.now draft.now }
     requires members { (n : ℕ) × (at (shown_blocks base.now draft.now) n ≡ Some a) }
-    ensures some { IfOk result (λ found. IfSome found (AreShownMergeable base.now draft.now a)) }
-    ensures none { IfOk result (λ found. IfNone found ((b : ℕ) → IsTrue (has blocks.now b) → AreShownNotMergeable base.now draft.now a b)) }
+    ensures some { IfSome result (AreShownMergeable base.now draft.now a) }
+    ensures none { IfNone result ((b : ℕ) → IsTrue (has blocks.now b) → AreShownNotMergeable base.now draft.now a b) }
 {
     let label = draft.label(base, a);
     for i in 0..blocks.len() {
-        if is_mergeable(base, draft, a, label, blocks[i], others)? {
-            return Ok(Some(blocks[i]));
+        if is_mergeable(base, draft, a, label, blocks[i]) {
+            return Some(blocks[i]);
         }
     }
-    Ok(None)
+    None
 }
 
 // Lists the children of a block that has support to itself, and nothing of another one.
@@ -256,7 +227,6 @@ fn find_mergeable_lone(
     parentless: &ParentlessBlocks,
     a: u32,
     list: &mut Vec<u32>,
-    others: &mut Vec<u32>,
 ) -> Result<Option<u32>, Memory>
     requires over { IsOver base.now.blocks.block_of base.now.blocks.labels draft.now }
     requires graph { ShowsSupportsOfGraph base.now draft.now }
@@ -267,31 +237,25 @@ fn find_mergeable_lone(
     ensures none { IfOk result (λ found. IfNone found ((b : ℕ) → AreShownNotMergeable base.now draft.now a b)) }
 {
     fill_candidates(base, draft, parentless, a, draft.label(base, a), list)?;
-    find_among(base, draft, a, list, others)
+    Ok(find_among(base, draft, a, list))
 }
 
 // A block that can be merged with a block, among another parent of it and the children of that one.
-fn find_mergeable_near(
-    base: &Summary,
-    draft: &Draft,
-    a: u32,
-    x: u32,
-    others: &mut Vec<u32>,
-) -> Result<Option<u32>, Memory>
+fn find_mergeable_near(base: &Summary, draft: &Draft, a: u32, x: u32) -> Option<u32>
     requires over { IsOver base.now.blocks.block_of base.now.blocks.labels draft.now }
     requires graph { ShowsSupportsOfGraph base.now draft.now }
     requires members { (n : ℕ) × (at (shown_blocks base.now draft.now) n ≡ Some a) }
     requires parent { (x ≢ a) × IsTrue (shown_adjacent base.now draft.now x a) }
-    ensures some { IfOk result (λ found. IfSome found (AreShownMergeable base.now draft.now a)) }
-    ensures none { IfOk result (λ found. IfNone found ((b : ℕ) → AreShownNotMergeable base.now draft.now a b)) }
+    ensures some { IfSome result (AreShownMergeable base.now draft.now a) }
+    ensures none { IfNone result ((b : ℕ) → AreShownNotMergeable base.now draft.now a b) }
 {
-    if is_mergeable(base, draft, a, draft.label(base, a), x, others)? {
-        return Ok(Some(x));
+    if is_mergeable(base, draft, a, draft.label(base, a), x) {
+        return Some(x);
     }
-    if let Some(b) = find_among(base, draft, a, base_children(base, x), others)? {
-        return Ok(Some(b));
+    if let Some(b) = find_among(base, draft, a, base_children(base, x)) {
+        return Some(b);
     }
-    find_among(base, draft, a, draft.drafted_children(x), others)
+    find_among(base, draft, a, draft.drafted_children(x))
 }
 
 /// A block that can be merged with this one, where it has members and there is one.
@@ -300,7 +264,7 @@ pub(crate) fn find_mergeable(
     draft: &Draft,
     parentless: &ParentlessBlocks,
     a: u32,
-    buffers: &mut Buffers,
+    list: &mut Vec<u32>,
 ) -> Result<Option<u32>, Memory>
     requires over { IsOver base.now.blocks.block_of base.now.blocks.labels draft.now }
     requires graph { ShowsSupportsOfGraph base.now draft.now }
@@ -312,14 +276,7 @@ pub(crate) fn find_mergeable(
         return Ok(None);
     }
     match other_parent(base, draft, a) {
-        Some(x) => find_mergeable_near(base, draft, a, x, &mut buffers.others),
-        None => find_mergeable_lone(
-            base,
-            draft,
-            parentless,
-            a,
-            &mut buffers.children,
-            &mut buffers.others,
-        ),
+        Some(x) => Ok(find_mergeable_near(base, draft, a, x)),
+        None => find_mergeable_lone(base, draft, parentless, a, list),
     }
 }

@@ -1,14 +1,12 @@
 // Whether two blocks can be merged.
-ghost use Rattle.std.specs.Prelude.{◌≡◌, ◌≢◌, ◌&&◌, ℕ, Some, IsTrue, IsFalse, IfOk, not, false};
-ghost use Rattle.std.specs.List.{list_all, list_any};
+ghost use Rattle.std.specs.Prelude.{◌≡◌, ◌≢◌, ◌&&◌, ℕ, Some, IsTrue, IsFalse, not, false};
+ghost use Rattle.std.specs.List.{list_any};
 ghost use Rattle.graph_spec.specs.Members.{at};
 ghost use Rattle.quotient_draft.specs.Drafts.{shown_labels, shown_blocks};
-ghost use Rattle.quotient_draft.specs.Basis.{IsOver};
-ghost use Rattle.one_merge.specs.MergeTests.{shown_adjacent, adjacent_merged};
-ghost use Rattle.one_merge.specs.Shown.{AreShownMergeable, AreShownNotMergeable, ShowsSupportsOfGraph};
+ghost use Rattle.one_merge.specs.MergeTests.{shown_adjacent, adjacent_merged, AreParentsSatisfied};
+ghost use Rattle.one_merge.specs.Shown.{AreShownMergeable, AreShownNotMergeable};
 
 use label_graph::Digraph;
-use px_base::Memory;
 use quotient::Summary;
 use quotient_draft::{Draft, base_parents};
 
@@ -29,27 +27,6 @@ fn is_satisfied(base: &Summary, draft: &Draft, a: u32, b: u32, d: u32, x: u32) -
     is_adjacent(base, draft, x, d)
 }
 
-// Whether each of the blocks is adjacent to d, where a and b count as one block. It stops at the first that isn't.
-fn are_satisfied(base: &Summary, draft: &Draft, a: u32, b: u32, d: u32, blocks: &[u32]) -> bool
-    ensures { result ≡ list_all (adjacent_merged (shown_adjacent base.now draft.now) a b d) blocks.now }
-{
-    blocks
-        .iter()
-        .all(|x| is_satisfied(base, draft, a, b, d, *x))
-}
-
-// Whether two blocks have one label.
-fn same_label(base: &Summary, draft: &Draft, a: u32, b: u32) -> bool
-    requires over { IsOver base.now.blocks.block_of base.now.blocks.labels draft.now }
-    requires graph { ShowsSupportsOfGraph base.now draft.now }
-    requires first { (n : ℕ) × (at (shown_blocks base.now draft.now) n ≡ Some a) }
-    requires second { (n : ℕ) × (at (shown_blocks base.now draft.now) n ≡ Some b) }
-    ensures yes { IsTrue result → at (shown_labels base.now draft.now) a ≡ at (shown_labels base.now draft.now) b }
-    ensures no { IsFalse result → at (shown_labels base.now draft.now) a ≢ at (shown_labels base.now draft.now) b }
-{
-    draft.label(base, a) == draft.label(base, b)
-}
-
 // Whether x is adjacent to b and not to a, where a and b count as one block.
 fn is_unsatisfied(base: &Summary, draft: &Draft, a: u32, b: u32, x: u32) -> bool
     ensures { result ≡ (shown_adjacent base.now draft.now x b && not (adjacent_merged (shown_adjacent base.now draft.now) a b a x)) }
@@ -65,47 +42,32 @@ fn is_any_unsatisfied(base: &Summary, draft: &Draft, a: u32, b: u32, blocks: &[u
     blocks.iter().any(|x| is_unsatisfied(base, draft, a, b, *x))
 }
 
-// Whether a parent of b in the base rules out that the two can be merged. No list is made, so it is cheap to test
-// first; parents that the draft adds are not seen.
+// Whether a parent of b rules out that the two can be merged: it isn't one of a once the two count as one. No list is made.
 fn has_unsatisfied_parent(base: &Summary, draft: &Draft, a: u32, b: u32) -> bool
-    ensures { IsTrue result → (x : ℕ)
+    ensures yes { IsTrue result → (x : ℕ)
         × IsTrue (shown_adjacent base.now draft.now x b) × (adjacent_merged (shown_adjacent base.now draft.now) a b a x ≡ false) }
+    ensures no { IsFalse result → AreParentsSatisfied (shown_adjacent base.now draft.now) a b b a }
 {
-    is_any_unsatisfied(base, draft, a, b, base_parents(base, b))
+    if is_any_unsatisfied(base, draft, a, b, base_parents(base, b)) {
+        return true;
+    }
+    is_any_unsatisfied(base, draft, a, b, draft.drafted_parents(b))
 }
 
-/// Whether two blocks with members can be merged: they have one label, and the same parent blocks once the two count as
-/// one. Their parents are listed only where the base has none that rules it out. `list` is memory to be reused.
+/// Whether two blocks with members and of one label can be merged: they have the same parent blocks once the two count as
+/// one.
 ///
-/// Expected O(p log p) for p parents of the two in the base and as drafted; it takes 4 to 8 bytes for each, in the list.
-pub(crate) fn can_merge(
-    base: &Summary,
-    draft: &Draft,
-    a: u32,
-    b: u32,
-    list: &mut Vec<u32>,
-) -> Result<bool, Memory>
-    requires over { IsOver base.now.blocks.block_of base.now.blocks.labels draft.now }
-    requires graph { ShowsSupportsOfGraph base.now draft.now }
+/// Expected O(p) for p parents of the two in the base and as drafted; it stops at the first that differs. No memory.
+pub(crate) fn can_merge(base: &Summary, draft: &Draft, a: u32, b: u32) -> bool
     requires apart { a ≢ b }
     requires first { (n : ℕ) × (at (shown_blocks base.now draft.now) n ≡ Some a) }
     requires second { (n : ℕ) × (at (shown_blocks base.now draft.now) n ≡ Some b) }
-    ensures yes { IfOk result (λ can. IsTrue can → AreShownMergeable base.now draft.now a b) }
-    ensures no { IfOk result (λ can. IsFalse can → AreShownNotMergeable base.now draft.now a b) }
+    requires label { at (shown_labels base.now draft.now) a ≡ at (shown_labels base.now draft.now) b }
+    ensures yes { IsTrue result → AreShownMergeable base.now draft.now a b }
+    ensures no { IsFalse result → AreShownNotMergeable base.now draft.now a b }
 {
-    if !same_label(base, draft, a, b) {
-        return Ok(false);
-    }
     if has_unsatisfied_parent(base, draft, a, b) {
-        return Ok(false);
+        return false;
     }
-    if has_unsatisfied_parent(base, draft, b, a) {
-        return Ok(false);
-    }
-    draft.fill_parents(base, a, list)?;
-    if !are_satisfied(base, draft, a, b, b, list) {
-        return Ok(false);
-    }
-    draft.fill_parents(base, b, list)?;
-    Ok(are_satisfied(base, draft, a, b, a, list))
+    !has_unsatisfied_parent(base, draft, b, a)
 }

@@ -5,7 +5,7 @@ ghost use Rattle.quotient_draft.specs.Basis.{IsOver};
 ghost use Rattle.one_merge.specs.ShownMerges.{ShowsSupportsOfGraph, AreShownMergeable, StayMergeCandidates, NoTwoCanMerge, MergesToEnd, StayEdgeCounts, LabelsStayRight};
 ghost use Rattle.one_merge.specs.ParentlessBlocks.{CoversBase, CoversShown};
 
-use crate::finding::{Buffers, find_mergeable};
+use crate::finding::find_mergeable;
 use crate::members::larger_first;
 use crate::merge_candidates::MergeCandidates;
 use crate::one_block::merge_pair;
@@ -15,13 +15,29 @@ use quotient::Summary;
 use quotient_draft::Draft;
 use std::alloc::Global;
 
+// Lists of blocks, in memory that is reused.
+#[derive(Drop)]
+struct Buffers {
+    children: Vec<u32>,
+    others: Vec<u32>,
+}
+
+impl Buffers {
+    fn new(alloc: Global) -> Buffers {
+        Buffers {
+            children: Vec::new(alloc),
+            others: Vec::new(alloc),
+        }
+    }
+}
+
 // Takes merge candidates off until one can be merged with another block. The larger block of the pair comes first.
 fn next_pair(
     base: &Summary,
     draft: &Draft,
     parentless: &ParentlessBlocks,
     merge_candidates: &mut MergeCandidates,
-    buffers: &mut Buffers,
+    list: &mut Vec<u32>,
 ) -> Result<Option<(u32, u32)>, Memory>
     requires over { IsOver base.now.blocks.block_of base.now.blocks.labels draft.now }
     requires graph { ShowsSupportsOfGraph base.now draft.now }
@@ -31,7 +47,7 @@ fn next_pair(
     ensures none { IfOk result (λ pair. IfNone pair (NoTwoCanMerge base.now draft.now merge_candidates.old)) }
 {
     'look: while let Some(a) = merge_candidates.take() {
-        if let Some(b) = find_mergeable(base, draft, parentless, a, buffers)? {
+        if let Some(b) = find_mergeable(base, draft, parentless, a, list)? {
             return Ok(Some(larger_first(base, draft, a, b)));
         }
     }
@@ -79,7 +95,7 @@ fn merge_pairs(
         draft,
         parentless,
         merge_candidates,
-        buffers,
+        &mut buffers.children,
     )? {
         draft.fill_children(base, b, &mut buffers.children)?;
         merge_pair(base, draft, a, b, &mut buffers.others)?;
@@ -99,7 +115,7 @@ fn merge_pairs(
 /// taken, or else the one with the fewest. Where it has no other parent than itself, it is compared with the blocks
 /// noted for its label, and with its children where it is a parent of itself.
 ///
-/// Expected O(u k p log p) for u blocks that are examined, which are the merge candidates, and after each merge the
+/// Expected O(u k p) for u blocks that are examined, which are the merge candidates, and after each merge the
 /// merged block and the children of the smaller one, each with at most p parents and compared with at most k blocks;
 /// and what `merge_pair` takes for each merge, and `note_touched` once. Most comparisons end at another label or at the
 /// first parent that differs. It takes the memory of `merge_pair` and of `note_touched`, and O(u + k + p).

@@ -4,7 +4,7 @@ use Rattle.std.specs.List.{AllPairs, filter}
 use Rattle.std.proofs.lemmas.List.{get_or-map, length-map}
 use Rattle.std.proofs.lemmas.Bool.{cases_lt}
 use Rattle.bisim_spec.specs.declared.kind.Kind.{Kind}
-use Rattle.bisim_spec.specs.declared.kind.Kind.TheVariants.{A, One, Fb}
+use Rattle.bisim_spec.specs.declared.kind.Kind.TheVariants.{A, One, Fb, B}
 use Rattle.index_api.specs.Meanings.{Meaning}
 use Rattle.index_api.specs.IndexKinds.{is_kind, kinds_of, has_kind}
 use Rattle.pathindex_core.specs.Boxes.{StandsAt}
@@ -17,23 +17,37 @@ pub same_kind : (a b : Kind) → is_kind a b ≡ true → a ≡ b
 same_kind A A e = refl
 same_kind A One e = absurd (cc)
 same_kind A Fb e = absurd (cc)
+same_kind A B e = absurd (cc)
 same_kind One A e = absurd (cc)
 same_kind One One e = refl
 same_kind One Fb e = absurd (cc)
+same_kind One B e = absurd (cc)
 same_kind Fb A e = absurd (cc)
 same_kind Fb One e = absurd (cc)
 same_kind Fb Fb e = refl
+same_kind Fb B e = absurd (cc)
+same_kind B A e = absurd (cc)
+same_kind B One e = absurd (cc)
+same_kind B Fb e = absurd (cc)
+same_kind B B e = refl
 
 other_kind : (a b : Kind) → a ≢ b → is_kind a b ≡ false
 other_kind A A e = absurd (e refl)
 other_kind A One e = refl
 other_kind A Fb e = refl
+other_kind A B e = refl
 other_kind One A e = refl
 other_kind One One e = absurd (e refl)
 other_kind One Fb e = refl
+other_kind One B e = refl
 other_kind Fb A e = refl
 other_kind Fb One e = refl
 other_kind Fb Fb e = absurd (e refl)
+other_kind Fb B e = refl
+other_kind B A e = refl
+other_kind B One e = refl
+other_kind B Fb e = refl
+other_kind B B e = absurd (e refl)
 
 -- where no box is of the kind, none is kept
 pub none_kept : (boxes : List Meaning) (kind : Kind) → ((k : ℕ) (d : Meaning) → k < length boxes → is_kind kind (get_or boxes k d).kind ≡ false) → has_kind (kinds_of boxes) kind ≡ false
@@ -50,7 +64,7 @@ is_kept_at (m ∷ boxes) kind (suc i) s =
     elim (is_kind kind m.kind) as (λ b. (b || has_kind (kinds_of boxes) kind) ≡ true) [ true ↦ refl | false ↦ rest ]
 
 -- one more isn't of the kind
-pub place_step : {B : Type 0} (f : B → Meaning) (xs : List B) (i : ℕ) (x : B) (kind : Kind) → i < length xs → x ≡ get_or xs i x
+pub place_step : {Box : Type 0} (f : Box → Meaning) (xs : List Box) (i : ℕ) (x : Box) (kind : Kind) → i < length xs → x ≡ get_or xs i x
     → ((k : ℕ) (d : Meaning) → k < i → is_kind kind (get_or (map f xs) k d).kind ≡ false) → is_kind kind (f x).kind ≡ false → (k : ℕ) (d : Meaning) → k < i + 1
     → is_kind kind (get_or (map f xs) k d).kind ≡ false
 place_step f xs i x kind h e before here k d below =
@@ -58,7 +72,7 @@ place_step f xs i x kind h e before here k d below =
     below_more P i (λ j jb. before j d jb) (rw (get_or-map f xs i x d h, ← e) here) k below
 
 -- the box at the place
-pub stands_here : {B : Type 0} (f : B → Meaning) (xs : List B) (i : ℕ) (x : B) (kind : Kind) → i < length xs → x ≡ get_or xs i x
+pub stands_here : {Box : Type 0} (f : Box → Meaning) (xs : List Box) (i : ℕ) (x : Box) (kind : Kind) → i < length xs → x ≡ get_or xs i x
     → ((k : ℕ) (d : Meaning) → k < i → is_kind kind (get_or (map f xs) k d).kind ≡ false) → is_kind kind (f x).kind ≡ true → StandsAt (map f xs) kind i
 stands_here f xs i x kind h e before is = record { within = rw (length-map xs f) h; of_kind = λ d. rw (get_or-map f xs i x d h, ← e) is; first = before }
 

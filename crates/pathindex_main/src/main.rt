@@ -7,6 +7,7 @@ ghost use Rattle.pathindex_core.specs.Engines.{IsSound, by_meaning};
 
 use ak_maintain::AkIndex;
 use fb_index::FbIndex;
+use fbk_index::FbkIndex;
 use index_api::{Kind, PathIndex};
 use one_maintain::OneKept;
 use pathindex_core::Engine;
@@ -38,7 +39,7 @@ fn run_over<B: PathIndex>(
     words: &[String],
     engine: &mut Engine<B>,
 ) -> u8
-    requires kinds { kinds_of (by_meaning B.meaning engine.old).boxes ≡ Kind.A ∷ Kind.One ∷ Kind.Fb ∷ [] }
+    requires kinds { kinds_of (by_meaning B.meaning engine.old).boxes ≡ Kind.A ∷ Kind.One ∷ Kind.Fb ∷ Kind.B ∷ [] }
     requires closed { engine.old.opened ≡ None }
     requires sound { IsSound (by_meaning B.meaning engine.old) }
 {
@@ -47,7 +48,7 @@ fn run_over<B: PathIndex>(
     run(rt.alloc(), words, engine, &mut shelf, &mut sink)
 }
 
-/// Carries out what the words ask for, on an engine of three boxes that it makes. `Memory` comes only where there is
+/// Carries out what the words ask for, on an engine of four boxes that it makes. `Memory` comes only where there is
 /// none for a box, and then the run isn't begun.
 fn run_words(rt: &(impl Files + Print + AllocGlobal), words: &[String]) -> Result<u8, Memory> {
     let alloc = rt.alloc();
@@ -55,6 +56,7 @@ fn run_words(rt: &(impl Files + Print + AllocGlobal), words: &[String]) -> Resul
     boxes.push(Box::new(alloc, AkIndex::new(alloc)?)?)?;
     boxes.push(Box::new(alloc, OneKept::new(alloc)?)?)?;
     boxes.push(Box::new(alloc, FbIndex::new(alloc)?)?)?;
+    boxes.push(Box::new(alloc, FbkIndex::new(alloc)?)?)?;
     let mut engine = Engine::new(boxes);
     let status = run_over(rt, words, &mut engine);
     Ok(status)

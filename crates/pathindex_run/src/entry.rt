@@ -28,14 +28,14 @@ use std::alloc::Global;
 use triple_names::Names;
 
 /// Carries out what the words ask for, and answers the exit status. The words are those after the
-/// program's name: `SCRIPT [--graph FILE] [--k N] [--without-one] [--without-fb]`, or `--make SEED`.
+/// program's name: `SCRIPT [--graph FILE] [--k N] [--without-one] [--without-fb] [--with-bk]`, or `--make SEED`.
 ///
 /// The graph file, if one is named, is loaded first; it is RDF 1.1 N-Triples. The engine drops the indexes that a
-/// flag leaves out, and builds the others. Then the script's lines are read from the shelf, and what they print is
+/// flag leaves out, and the bounded forward and backward ones unless a flag asks for them, and builds the others. Then the script's lines are read from the shelf, and what they print is
 /// written to the sink.
 ///
 /// With a seed, from 0 to 2^64 - 1, a graph file and a script are made from it and used instead of files: the engine keeps
-/// all its indexes, k is 2, and the shelf isn't called. Changes that are accepted and indexes that are forgotten print nothing
+/// all its indexes but those, k is 2, and the shelf isn't called. Changes that are accepted and indexes that are forgotten print nothing
 /// then, and an answer prints its first line only.
 ///
 /// | Status | When |
@@ -180,7 +180,7 @@ fn run_loaded<B: PathIndex, H: Shelf, K: Sink>(
 }
 
 /// Drops the index of that kind if it is left out.
-fn leave_out<B: PathIndex>(engine: &mut Engine<B>, kind: Kind, is_left_out: bool)
+pub(crate) fn leave_out<B: PathIndex>(engine: &mut Engine<B>, kind: Kind, is_left_out: bool)
     requires closed { engine.old.opened ≡ None }
     requires sound { IsSound (by_meaning B.meaning engine.old) }
     ensures closed { engine.new.opened ≡ None }
@@ -217,6 +217,7 @@ fn run_script<B: PathIndex, H: Shelf, K: Sink>(
 {
     leave_out(engine, Kind::One, settings.without_one);
     leave_out(engine, Kind::Fb, settings.without_fb);
+    leave_out(engine, Kind::B, !settings.with_bk);
     match engine.open(graph, Limits::program(), settings.k) {
         Ok(()) => run_open(alloc, settings, engine, names, shelf, sink),
         Err(_) => Status::NoMemory,

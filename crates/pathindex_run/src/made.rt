@@ -13,10 +13,11 @@ ghost use Rattle.pathindex_run.specs.Headline.{RunsFrom, RunsLoaded, RunsScript,
 ghost use Rattle.pathindex_run.specs.MadeSteps.{HasSinkStatus, text_task};
 ghost use Rattle.pathindex_run.specs.StatusCodes.{code_of};
 
+use crate::entry::leave_out;
 use crate::output::show_refusal;
 use crate::status::{Status, status_of};
 use graph_load::{LoadError, TextShelf, load_text};
-use index_api::PathIndex;
+use index_api::{Kind, PathIndex};
 use label_graph::Graph;
 use pathindex_core::Engine;
 use px_base::{Limits, Sink};
@@ -63,7 +64,7 @@ pub(crate) fn run_made<B: PathIndex, K: Sink>(
     }
 }
 
-/// Makes the script for the graph, and runs it from there on.
+/// Makes the script for the graph, and runs it from there on, without the bounded forward and backward indexes.
 fn run_script<B: PathIndex, K: Sink>(
     alloc: Global,
     seed: u64,
@@ -79,6 +80,7 @@ fn run_script<B: PathIndex, K: Sink>(
         (code_of result) (IsIn (by_meaning B.meaning engine.new)) }
     ensures status { HasSinkStatus (K.faults sink.old) (K.faults sink.new) (code_of result) }
 {
+    leave_out(engine, Kind::B, true);
     match made_script(alloc, seed, graph.created()) {
         Ok(script) => run_text(alloc, script.as_bytes(), graph, names, engine, sink),
         Err(_) => Status::NoMemory,

@@ -1,1 +1,3 @@
 mod TextLaws
+mod EditLaws
+mod AskedLaws

@@ -1,8 +1,9 @@
 -- A query that is asked of an engine.
-use Rattle.std.specs.Prelude.{Result, Err, IfOk, ◌≡◌, ◌↔◌}
+use Rattle.std.specs.Prelude.{ℕ, Vec, Result, Err, IfOk, ◌≡◌, ◌↔◌}
+use Rattle.std.specs.Global.{Global}
 use Rattle.branch_query.specs.Queries.{Query}
 use Rattle.index_api.specs.declared.kinds.Via.{Via}
-use Rattle.index_api.specs.declared.answers.Answer.{Answer}
+use Rattle.index_api.specs.declared.answers.How.{How}
 use Rattle.pathindex_core.specs.declared.errors.AskError.{AskError}
 use Rattle.pathindex_core.specs.declared.errors.AskError.TheVariants as ask_error
 use Rattle.graph_spec.specs.declared.refusal.Refusal.TheVariants.{Limit, NoIndex as MissingIndex}
@@ -14,9 +15,9 @@ use Rattle.pathindex_core.specs.Engines.{EngineSeen, graph_in, kept_in}
 use Rattle.pathindex_core.specs.QueryAnswers.{IsAnswered, NamesMissingIndex}
 
 -- what an engine answers to a query, whatever it read
-pub record IsAsked (e : EngineSeen) (via : Via) (q : Query) (result : Result Answer AskError) : Type 0 where
+pub record IsAsked (e : EngineSeen) (via : Via) (q : Query) (result : Result (Vec ℕ Global × How) AskError) : Type 0 where
   -- the answers are those of the graph, found in the graph or in the index
-  pub answered : IfOk result (λ answer. IsAnswered (graph_in e.opened) (kept_in e) via q answer.how answer.nodes.members)
+  pub answered : IfOk result (λ r. IsAnswered (graph_in e.opened) (kept_in e) via q r.1 r.0.items)
   -- `NoIndex` comes exactly where the index isn't kept
   pub no_index : (result ≡ Err ask_error.NoIndex) ↔ NamesMissingIndex (kept_in e) via
 

@@ -1,4 +1,5 @@
 pub mod Sessions
 pub mod Openings
+pub mod Edits
 pub mod Asked
 pub mod TextAnswers

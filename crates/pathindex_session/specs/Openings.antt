@@ -3,8 +3,9 @@ use Rattle.std.specs.Prelude.{ℕ, ⊤, List, [], ◌∷◌, ◌++◌, Some, ◌
 use Rattle.graph_spec.specs.ProgramLimits.{program_limits}
 use Rattle.graph_spec.specs.Graphs.{Graph}
 use Rattle.bisim_spec.specs.declared.kind.Kind.{Kind}
-use Rattle.bisim_spec.specs.declared.kind.Kind.TheVariants.{A, One, Fb}
-use Rattle.graph_load.specs.Loads.{Loads, loaded, syntax, limit}
+use Rattle.bisim_spec.specs.declared.kind.Kind.TheVariants.{A, One, Fb, B}
+use Rattle.triple_names.specs.Names.{Names}
+use Rattle.graph_load.specs.Loads.{Loads, LoadsNamed, loaded, syntax, limit}
 use Rattle.index_api.specs.IndexKinds.{kinds_of}
 use Rattle.pathindex_core.specs.Engines.{EngineOf, by_meaning}
 use Rattle.any_index.specs.declared.any.AnyIndex.{AnyIndex}
@@ -15,17 +16,18 @@ use Rattle.pathindex_session.specs.declared.opening.Indexes.{Indexes}
 
 -- the kinds of indexes that are kept
 abbrev pub kinds_kept : Indexes → List Kind
-kinds_kept kept = A ∷ (if kept.one then One ∷ [] else []) ++ (if kept.fb then Fb ∷ [] else [])
+kinds_kept kept = A ∷ (if kept.one then One ∷ [] else []) ++ (if kept.fb then Fb ∷ [] else []) ++ (if kept.bk then B ∷ [] else [])
 
 -- the engine has this graph and keeps these indexes
 pub record OpensGraph (g : Graph) (kept : Indexes) (e : EngineOf AnyIndex) : Type 0 where
   pub opened : e.opened ≡ Some (record { graph = g; limits = program_limits; k = kept.k })
   pub kinds : kinds_of (by_meaning meaning_of e).boxes ≡ kinds_kept kept
 
--- the same with the graph of the triples in a text
-pub record OpensText (text : List ℕ) (kept : Indexes) (e : EngineOf AnyIndex) : Type 0 where
+-- the same with the graph of the triples in a text, and with the numbers that the load gave its terms and triples
+pub record OpensText (text : List ℕ) (kept : Indexes) (e : EngineOf AnyIndex) (n : Names) : Type 0 where
   pub graph : Graph
   pub loads : Loads program_limits text (loaded graph)
+  pub named : LoadsNamed program_limits text graph n
   pub opens : OpensGraph graph kept e
 
 -- the line that an error names is the one at which the text is refused, and for that reason

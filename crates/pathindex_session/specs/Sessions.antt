@@ -2,6 +2,8 @@
 use Rattle.std.specs.Prelude.{ℕ, List, IsSome, refl, ◌≡◌}
 use Rattle.std.specs.Coded.{Coded, code_by, coded×, coded_list, coded_ℕ}
 use Rattle.graph_spec.specs.Graphs.{Graph}
+use Rattle.triple_names.specs.Names.{Names, ReservedNames}
+use Rattle.triple_names.specs.NameCodes.{names_code}
 use Rattle.pathindex_core.specs.Engines.{EngineOf, EngineSeen, engine_code, by_meaning, graph_in, IsSound}
 use Rattle.any_index.specs.declared.any.AnyIndex.{AnyIndex}
 use Rattle.any_index.specs.contracts.any.AnyIndex.{the_row as index_row}
@@ -10,6 +12,8 @@ use Rattle.any_index.specs.AnyMeanings.{meaning_of}
 pub record SessionOf : Type 0 where
   -- the engine, with its graph and its indexes
   pub engine : EngineOf AnyIndex
+  -- the numbers of terms and of triples
+  pub names : ReservedNames
   -- the answers that were found last, rising
   pub nodes : List ℕ
   -- the walk that was found last
@@ -19,9 +23,10 @@ pub record SessionOf : Type 0 where
 
 abbrev pub session_code : Coded SessionOf
 session_code =
-    code_by (EngineOf AnyIndex × (List ℕ × (List ℕ × List ℕ)))
-    (coded× (engine_code index_row.coded) (coded× (coded_list coded_ℕ) (coded× (coded_list coded_ℕ) (coded_list coded_ℕ))))
-    (λ s. (s.engine, (s.nodes, (s.walk, s.text)))) (λ p. record { engine = p.0; nodes = p.1.0; walk = p.1.1.0; text = p.1.1.1 }) (λ _. refl)
+    code_by (EngineOf AnyIndex × (ReservedNames × (List ℕ × (List ℕ × List ℕ))))
+    (coded× (engine_code index_row.coded) (coded× names_code (coded× (coded_list coded_ℕ) (coded× (coded_list coded_ℕ) (coded_list coded_ℕ)))))
+    (λ s. (s.engine, (s.names, (s.nodes, (s.walk, s.text)))))
+    (λ p. record { engine = p.0; names = p.1.0; nodes = p.1.1.0; walk = p.1.1.1.0; text = p.1.1.1.1 }) (λ _. refl)
 
 -- the engine of a session, by what its indexes mean
 abbrev pub engine_in : SessionOf → EngineSeen
@@ -30,6 +35,10 @@ engine_in s = by_meaning meaning_of s.engine
 -- the graph of a session
 abbrev pub graph_of : SessionOf → Graph
 graph_of s = graph_in s.engine.opened
+
+-- the numbers of its terms and triples
+abbrev pub names_of : SessionOf → Names
+names_of s = s.names.names
 
 -- What holds of a session's engine between two calls.
 pub record IsReady (e : EngineOf AnyIndex) : Type 0 where

@@ -16,7 +16,7 @@ ghost use Rattle.pathindex_session.specs.Asked.{IsAsked};
 
 use any_index::AnyIndex;
 use branch_query::Query;
-use index_api::{Answer, Via};
+use index_api::{How, Via};
 use label_graph::Graph;
 use path_query::PathExpr;
 use pathindex_core::{AskError, Engine};
@@ -25,6 +25,9 @@ use std::alloc::Global;
 use std::sync::ledger::{Blank, Ledger};
 use walk_proof::{Walk, find};
 
+/// What a query answers: the nodes, rising, and how they were found.
+pub(crate) type Found = (Vec<NodeId>, How);
+
 /// Asks a query of the graph itself or of an index.
 pub(crate) fn ask<L: Ledger>(
     alloc: Global,
@@ -32,7 +35,7 @@ pub(crate) fn ask<L: Ledger>(
     via: Via,
     query: &Query<'_>,
     blank: Blank,
-) -> Result<Answer, AskError>
+) -> Result<Found, AskError>
     requires ready { IsReady engine.old }
     requires name { blank.name ≡ L.name }
     requires parts { blank.parts ≡ L.parts }
@@ -42,7 +45,13 @@ pub(crate) fn ask<L: Ledger>(
     ensures asked { IsAsked (by_meaning meaning_of engine.old) via (query_of query.now) result }
 {
     let mut steps = Steps::<L>::new(blank);
-    engine.ask(alloc, via, query, &mut steps)
+    match engine.ask(alloc, via, query, &mut steps) {
+        Ok(answer) => match answer.nodes.list(alloc) {
+            Ok(nodes) => Ok((nodes, answer.how)),
+            Err(_) => Err(AskError::Memory),
+        },
+        Err(error) => Err(error),
+    }
 }
 
 /// Lists the blocks of an index.

@@ -6,6 +6,7 @@
 #![tactic(auto)]
 
 mod asking;
+mod editing;
 mod errors;
 mod opening;
 mod session;

@@ -11,12 +11,14 @@ use crate::errors::OpenError;
 use ak_maintain::AkIndex;
 use any_index::AnyIndex;
 use fb_index::FbIndex;
+use fbk_index::FbkIndex;
 use graph_load::{LoadError, load_text};
 use label_graph::Graph;
 use one_maintain::OneKept;
 use pathindex_core::Engine;
 use px_base::{Limits, Memory};
 use std::alloc::Global;
+use triple_names::Names;
 
 /// Which indexes a session keeps, beside the A(k)-indexes.
 #[derive(Clone, Copy, Debug, PartialEq, Eq, Drop)]
@@ -27,6 +29,8 @@ pub struct Indexes {
     pub one: bool,
     /// Whether the forward and backward index is kept.
     pub fb: bool,
+    /// Whether the bounded forward and backward indexes are kept, with the same highest level.
+    pub bk: bool,
 }
 
 /// An engine with these indexes, which isn't open.
@@ -42,6 +46,9 @@ fn engine_with(alloc: Global, kept: Indexes) -> Result<Engine<AnyIndex>, Memory>
     }
     if kept.fb {
         indexes.push(AnyIndex::Fb(FbIndex::new(alloc)?))?;
+    }
+    if kept.bk {
+        indexes.push(AnyIndex::B(FbkIndex::new(alloc)?))?;
     }
     let engine = Engine::new(indexes);
     Ok(engine)
@@ -62,20 +69,20 @@ pub(crate) fn open_graph(
     Ok(engine)
 }
 
-/// An engine that is open with the graph of the triples in a text.
+/// An engine that is open with the graph of the triples in a text, and the numbers of its terms and triples.
 pub(crate) fn open_text(
     alloc: Global,
     text: &[u8],
     kept: Indexes,
-) -> Result<Engine<AnyIndex>, OpenError>
+) -> Result<(Engine<AnyIndex>, Names), OpenError>
     requires level { kept.k ≤ 8 }
-    ensures ready { IfOk result IsReady }
-    ensures opened { IfOk result (OpensText text.now kept) }
+    ensures ready { IfOk result (λ r. IsReady r.0) }
+    ensures opened { IfOk result (λ r. OpensText text.now kept r.0 r.1.names) }
     ensures refused { IfErr result (TellsLine text.now) }
 {
     match load_text(alloc, text, &Limits::program()) {
-        Ok((graph, _names)) => match open_graph(alloc, graph, kept) {
-            Ok(engine) => Ok(engine),
+        Ok((graph, names)) => match open_graph(alloc, graph, kept) {
+            Ok(engine) => Ok((engine, names)),
             Err(Memory) => Err(OpenError::Memory),
         },
         Err(LoadError::Syntax(line)) => Err(OpenError::Syntax(line)),

@@ -1,8 +1,10 @@
 // A session.
-ghost use Rattle.std.specs.Prelude.{◌≡◌, ◌≢◌, ◌≤◌, ◌↔◌, [], Err, false, IsTrue, IfOk, IfErr, OnOk, OnErr};
+ghost use Rattle.std.specs.Prelude.{◌≡◌, ◌≢◌, ◌≤◌, ◌↔◌, [], Some, Ok, Err, false, IsTrue, IfOk, IfErr, OnOk, OnErr};
 ghost use Rattle.graph_spec.specs.ProgramLimits.{program_limits};
 ghost use Rattle.graph_spec.specs.Graphs.{is_live};
 ghost use Rattle.change_spec.specs.Steps.{is_new};
+ghost use Rattle.triple_names.specs.Names.{AreSameNames};
+ghost use Rattle.triple_names.specs.TripleChanges.{insert_steps, delete_change};
 ghost use Rattle.branch_query.specs.Queries.{query_of};
 ghost use Rattle.path_query.specs.Parsed.{is_past};
 ghost use Rattle.index_api.specs.IndexKinds.{is_kept, kinds_of, has_kind};
@@ -10,40 +12,45 @@ ghost use Rattle.extent_report.specs.PrintedLists.{ListsIndex, ListsSizes};
 ghost use Rattle.pathindex_core.specs.Engines.{kept_in};
 ghost use Rattle.pathindex_core.specs.Calls.{IsMade, IsForgotten, KeepsAllButViews};
 ghost use Rattle.pathindex_core.specs.Updates.{outcome_in};
-ghost use Rattle.pathindex_session.specs.Sessions.{engine_in, graph_of, KeepsFound};
+ghost use Rattle.pathindex_session.specs.Sessions.{engine_in, graph_of, names_of, KeepsFound};
 ghost use Rattle.pathindex_session.specs.Openings.{OpensText, TellsLine};
+ghost use Rattle.pathindex_session.specs.Edits.{IsEdited, names_with};
 ghost use Rattle.pathindex_session.specs.TextAnswers.{IsAskedHow, IsExplained, SpellsPath, SpellsBranch, AnswersText, ExplainsText, ChecksText};
 
 use crate::asking::{ask, explain, list, measure};
+use crate::editing::{delete, insert};
 use crate::errors::{OpenError, QueryError, of_ask, of_text};
 use crate::opening::{Indexes, open_text};
 use any_index::AnyIndex;
 use branch_query::Query;
 use branch_text::Branch;
 use graph_update::{Applied, Change};
-use index_api::{Answer, How, Kind, Via};
+use index_api::{How, Kind, Via};
 use label_graph::Graph;
 use path_query::PathExpr;
 use pathindex_core::{AskError, Engine, UpdateError};
-use px_base::{Bits, Limits, Memory, NodeId, Refusal, Text};
+use px_base::{Limits, Memory, NodeId, Refusal, Text};
 use std::alloc::Global;
 use std::marker::{Brand, Model};
 use std::sync::ledger::Blank;
+use triple_names::Names;
+use triples_read::Triple;
 use walk_check::holds;
 use walk_proof::Walk;
 
-/// An engine that is open, and what was last asked of it: answers, a walk, and a list of blocks or of sizes. A call that
-/// fails leaves the graph, its indexes and what was asked before as they were.
+/// An engine that is open, the numbers of its terms and triples, and what was last asked: answers, a walk, and a list of blocks
+/// or of sizes. A call that fails leaves the graph, its indexes and what was asked before as they were.
 ///
 /// The nodes that Ana knows:
 ///
-///     let kept = Indexes { k: 2, one: true, fb: true };
+///     let kept = Indexes { k: 2, one: true, fb: true, bk: false };
 ///     let mut session = Session::open(alloc, triples, kept)?;
 ///     session.path(alloc, Via::One, b"<x:knows>/iri")?;
 ///     take(session.nodes());
 pub struct Session {
     engine: Engine<AnyIndex>,
-    nodes: Bits,
+    names: Names,
+    nodes: Vec<NodeId>,
     walk: Walk,
     text: Text,
 }
@@ -53,11 +60,13 @@ impl Drop for Session {
     fn drop(self) {
         let Session {
             engine,
+            names,
             nodes,
             walk,
             text,
         } = self;
         drop(engine);
+        drop(names);
         drop(nodes);
         drop(walk);
         drop(text);
@@ -71,7 +80,7 @@ impl Model for Session {
 
     ghost coded = { session_code };
 
-    ghost view = { λ s. record { engine = s.engine; nodes = s.nodes.members; walk = s.walk; text = s.text } };
+    ghost view = { λ s. record { engine = s.engine; names = s.names; nodes = s.nodes.items; walk = s.walk; text = s.text } };
 
     ghost invariant = { λ s. IsReady s.engine };
 }
@@ -81,25 +90,24 @@ impl Session {
     /// Nothing was asked yet. It takes the time and memory of `load_text` and of `Engine::open`.
     pub fn open(alloc: Global, triples: &[u8], kept: Indexes) -> Result<Session, OpenError>
         requires level { kept.k ≤ 8 }
-        ensures opened { IfOk result (λ s. OpensText triples.now kept s.engine) }
+        ensures opened { IfOk result (λ s. OpensText triples.now kept s.engine (names_of s)) }
         ensures nodes { IfOk result (λ s. s.nodes ≡ []) }
         ensures walk { IfOk result (λ s. s.walk ≡ []) }
         ensures text { IfOk result (λ s. s.text ≡ []) }
         ensures refused { IfErr result (TellsLine triples.now) }
     {
-        let engine = match open_text(alloc, triples, kept) {
-            Ok(engine) => engine,
+        let (engine, names) = match open_text(alloc, triples, kept) {
+            Ok(opened) => opened,
             Err(error) => return Err(error),
         };
-        let Ok(nodes) = Bits::new(alloc, 0) else {
-            return Err(OpenError::Memory);
-        };
+        let nodes = Vec::new(alloc);
         let Ok(walk) = Walk::of(alloc, &[]) else {
             return Err(OpenError::Memory);
         };
         let text = Text::from_string(String::new(alloc));
         Ok(Session {
             engine,
+            names,
             nodes,
             walk,
             text,
@@ -119,22 +127,45 @@ impl Session {
         ensures made { IfOk result (IsMade change (engine_in self.old) (engine_in self.new)) }
         ensures same { is_new change (graph_of self.old) ≡ false → result ≢ Err UpdateError.Memory }
         ensures err { OnErr result (engine_in self.new ≡ engine_in self.old) }
+        ensures names { self.new.names ≡ self.old.names }
         ensures found { KeepsFound self.old self.new }
     {
         self.engine.update(alloc, change)
+    }
+
+    /// Inserts a triple: its subject, its object and the triple itself get nodes, where they have none, and the triple is linked
+    /// between the other two, as one change (`insert_change`). It says which numbers the new nodes got. One that is there already
+    /// is accepted, and changes nothing. The cost is that of `insert_change` and of `update`.
+    pub fn insert(&mut self, alloc: Global, triple: Triple) -> Result<Applied, UpdateError>
+        ensures edited { IsEdited (Some (insert_steps (names_of self.old) (graph_of self.old) triple)) (engine_in self.old) (engine_in self.new) result }
+        ensures names { OnOk result (AreSameNames (names_of self.new) (names_with (names_of self.old) (graph_of self.old) triple)) }
+        ensures err { OnErr result (AreSameNames (names_of self.new) (names_of self.old)) }
+        ensures found { KeepsFound self.old self.new }
+    {
+        insert(alloc, &mut self.engine, &mut self.names, triple)
+    }
+
+    /// Deletes a triple: its node is dropped, and those of its subject and object that have no other neighbour, as one change
+    /// (`delete_change`). One that isn't there is refused for `NoNode`. The cost is that of `delete_change` and of `update`.
+    pub fn delete(&mut self, alloc: Global, triple: &Triple) -> Result<Applied, UpdateError>
+        ensures edited { IsEdited (delete_change (names_of self.old) (graph_of self.old) triple.now) (engine_in self.old) (engine_in self.new) result }
+        ensures names { self.new.names ≡ self.old.names }
+        ensures found { KeepsFound self.old self.new }
+    {
+        delete(alloc, &mut self.engine, &self.names, triple)
     }
 
     // Asks a query. Its answers are kept.
     fn ask(&mut self, alloc: Global, via: Via, query: &Query<'_>) -> Result<How, QueryError>
         ensures asked { IsAskedHow self.old self.new via (query_of query.now) result }
         ensures keeps { KeepsAllButViews (engine_in self.old) (engine_in self.new) }
+        ensures names { self.new.names ≡ self.old.names }
         ensures err { OnErr result (self.new.nodes ≡ self.old.nodes) }
         ensures walk { self.new.walk ≡ self.old.walk }
         ensures text { self.new.text ≡ self.old.text }
     {
         match ask::<Brand>(alloc, &mut self.engine, via, query, Blank::new(1)) {
-            Ok(answer) => {
-                let Answer { nodes, how } = answer;
+            Ok((nodes, how)) => {
                 self.nodes = nodes;
                 Ok(how)
             }
@@ -147,6 +178,7 @@ impl Session {
     pub fn path(&mut self, alloc: Global, via: Via, text: &[u8]) -> Result<How, QueryError>
         ensures answers { AnswersText (SpellsPath text.now) (is_past program_limits text.now) self.old self.new via result }
         ensures keeps { KeepsAllButViews (engine_in self.old) (engine_in self.new) }
+        ensures names { self.new.names ≡ self.old.names }
         ensures err { OnErr result (self.new.nodes ≡ self.old.nodes) }
         ensures walk { self.new.walk ≡ self.old.walk }
         ensures text { self.new.text ≡ self.old.text }
@@ -161,6 +193,7 @@ impl Session {
     pub fn branch(&mut self, alloc: Global, via: Via, text: &[u8]) -> Result<How, QueryError>
         ensures answers { AnswersText (SpellsBranch text.now) (is_past program_limits text.now) self.old self.new via result }
         ensures keeps { KeepsAllButViews (engine_in self.old) (engine_in self.new) }
+        ensures names { self.new.names ≡ self.old.names }
         ensures err { OnErr result (self.new.nodes ≡ self.old.nodes) }
         ensures walk { self.new.walk ≡ self.old.walk }
         ensures text { self.new.text ≡ self.old.text }
@@ -177,6 +210,8 @@ impl Session {
         ensures found { IfOk result (λ b. IsExplained b (graph_of self.old) expr.now node self.new.walk) }
         ensures only { (error : QueryError) → result ≡ Err error → error ≡ QueryError.Memory }
         ensures engine { self.new.engine ≡ self.old.engine }
+        ensures names { self.new.names ≡ self.old.names }
+        ensures no_walk { result ≡ Ok false → self.new.walk ≡ self.old.walk }
         ensures err { OnErr result (self.new.walk ≡ self.old.walk) }
         ensures nodes { self.new.nodes ≡ self.old.nodes }
         ensures text { self.new.text ≡ self.old.text }
@@ -192,10 +227,12 @@ impl Session {
     }
 
     /// Finds the least walk that shows why the node answers the path expression that the text spells: the walk found last
-    /// from then on. `false`: it doesn't answer. It takes the time and memory of `walk_proof::find`.
+    /// from then on. `false`: it doesn't answer, and the walk found last stays. It takes the time and memory of `walk_proof::find`.
     pub fn why(&mut self, alloc: Global, node: NodeId, text: &[u8]) -> Result<bool, QueryError>
         ensures explained { ExplainsText text.now (is_past program_limits text.now) self.old self.new node result }
         ensures engine { self.new.engine ≡ self.old.engine }
+        ensures names { self.new.names ≡ self.old.names }
+        ensures no_walk { result ≡ Ok false → self.new.walk ≡ self.old.walk }
         ensures err { OnErr result (self.new.walk ≡ self.old.walk) }
         ensures nodes { self.new.nodes ≡ self.old.nodes }
         ensures text { self.new.text ≡ self.old.text }
@@ -237,6 +274,7 @@ impl Session {
         ensures listed { OnOk result (ListsIndex (graph_of self.old) (kept_in (engine_in self.old)) via self.new.text) }
         ensures no_index { (result ≡ Err (QueryError.Refused Refusal.NoIndex)) ↔ (is_kept (kept_in (engine_in self.old)) via ≡ false) }
         ensures keeps { KeepsAllButViews (engine_in self.old) (engine_in self.new) }
+        ensures names { self.new.names ≡ self.old.names }
         ensures err { OnErr result (self.new.text ≡ self.old.text) }
         ensures nodes { self.new.nodes ≡ self.old.nodes }
         ensures walk { self.new.walk ≡ self.old.walk }
@@ -258,6 +296,7 @@ impl Session {
     pub fn sizes(&mut self, alloc: Global) -> Result<(), Memory>
         ensures measured { OnOk result (ListsSizes (graph_of self.old) (kept_in (engine_in self.old)) self.new.text) }
         ensures keeps { KeepsAllButViews (engine_in self.old) (engine_in self.new) }
+        ensures names { self.new.names ≡ self.old.names }
         ensures err { OnErr result (self.new.text ≡ self.old.text) }
         ensures nodes { self.new.nodes ≡ self.old.nodes }
         ensures walk { self.new.walk ≡ self.old.walk }
@@ -276,16 +315,17 @@ impl Session {
         ensures forgotten { IsForgotten kind (engine_in self.old) (engine_in self.new) }
         ensures no_index { (result ≡ Err Refusal.NoIndex) ↔ (has_kind (kinds_of (engine_in self.old).boxes) kind ≡ false) }
         ensures no_other { (r : Refusal) → result ≡ Err r → r ≡ Refusal.NoIndex }
+        ensures names { self.new.names ≡ self.old.names }
         ensures found { KeepsFound self.old self.new }
     {
         self.engine.forget(kind)
     }
 
-    /// The answers that were found last. O(1), no memory.
-    pub fn nodes(&self) -> &Bits
-        ensures { result.now.members ≡ self.now.nodes }
+    /// The answers that were found last, rising. O(1), no memory.
+    pub fn nodes(&self) -> &[NodeId]
+        ensures { result.now ≡ self.now.nodes }
     {
-        &self.nodes
+        self.nodes.as_slice()
     }
 
     /// The walk that was found last. O(1), no memory.

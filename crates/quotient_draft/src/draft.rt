@@ -76,6 +76,14 @@ impl Draft {
         self.moves.block_of(base, n)
     }
 
+    /// The label of a block as shown, and none where the number is that of no block. Expected O(1), no memory.
+    pub fn label_of(&self, base: &Summary, b: u32) -> Option<u32>
+        requires over { IsOver base.now.blocks.block_of base.now.blocks.labels self.now }
+        ensures { result ≡ at (shown_labels base.now self.now) b }
+    {
+        self.added.label(base, b)
+    }
+
     /// Whether the number is that of a block as shown. Expected O(1), no memory.
     pub fn is_block(&self, base: &Summary, b: u32) -> bool
         requires over { IsOver base.now.blocks.block_of base.now.blocks.labels self.now }

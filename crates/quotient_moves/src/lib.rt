@@ -8,7 +8,7 @@ mod shifting;
 
 pub use moving::move_node;
 pub use neighbours::NodeNeighbours;
-pub use reading::read_parents;
+pub use reading::{read_children, read_parents};
 
 #[cfg(test)]
 mod tests;

@@ -28,8 +28,8 @@ pub fn read_parents<L: Ledger>(
     fill(list, after.parents(n, steps))
 }
 
-/// Lists the children of a node in the graph after a change, replacing what the list held.
-pub(crate) fn read_children<L: Ledger>(
+/// Lists the children of a node in the graph after a change, at the same cost, replacing what the list held.
+pub fn read_children<L: Ledger>(
     list: &mut Vec<NodeId>,
     after: &After<'_>,
     n: NodeId,

@@ -85,6 +85,7 @@ is_one : (k : Kind) → is_kind kind.One k ≡ true → k ≡ kind.One
 is_one kind.A h = absurd (true≢false (sym h))
 is_one kind.One h = refl
 is_one kind.Fb h = absurd (true≢false (sym h))
+is_one kind.B h = absurd (true≢false (sym h))
 
 -- the blocks of the 1-index among the boxes
 abbrev one_in : List Meaning → List (Option ℕ)

@@ -10,7 +10,7 @@ use Rattle.graph_spec.specs.Words.{node_word}
 use Rattle.bisim_spec.specs.declared.kind.Kind.{Kind}
 use Rattle.bisim_spec.specs.declared.kind.Kind.TheVariants as kind
 use Rattle.index_api.specs.declared.kinds.Via.{Via}
-use Rattle.index_api.specs.declared.kinds.Via.TheVariants.{Data, A, One, Fb}
+use Rattle.index_api.specs.declared.kinds.Via.TheVariants.{Data, A, One, Fb, B}
 use Rattle.index_api.specs.Spelling.{via_word, kind_word}
 use Rattle.script_read.specs.FirstWords.{first_word, behind_word, expression_text}
 use Rattle.script_read.specs.Commands.{Command, change, begin, end, insert, delete, path, branch, why, check, extents, sizes, forget, IsIndex, IsVia, IsQuiet, IsSpelled, SpellsPair, SpellsNodes, AsksWith, Asks, NoCommand, SpellsOnce, LabelsOnce, PathsOnce, BranchesOnce}
@@ -43,6 +43,7 @@ via_one : (v w : Via) → IsVia v → IsVia w → via_word v ≡ via_word w → 
 via_one (A m) (A n) h k e = ap A (decimal_injective m n (omega (arith, h)) (omega (arith, k)) cc)
 via_one One One h k e = refl
 via_one Fb Fb h k e = refl
+via_one (B m) (B n) h k e = ap B (decimal_injective m n (omega (arith, h)) (omega (arith, k)) cc)
 via_one Data Data h k e = refl
 via_one v w h k e = absurd (let first = ap (λ l. slice_index l 0) e in omega (arith, first))
 
@@ -53,12 +54,14 @@ index_via : (v : Via) → IsIndex v → IsVia v
 index_via (A m) h = h
 index_via One h = h
 index_via Fb h = h
+index_via (B m) h = h
 index_via Data h = absurd h
 
 kind_one : (v w : Kind) → kind_word v ≡ kind_word w → v ≡ w
 kind_one kind.A kind.A e = refl
 kind_one kind.One kind.One e = refl
 kind_one kind.Fb kind.Fb e = refl
+kind_one kind.B kind.B e = refl
 kind_one v w e = absurd (let first = ap (λ l. slice_index l 0) e in omega (arith, first))
 
 -- a word spells at most one list of nodes

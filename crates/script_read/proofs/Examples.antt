@@ -15,7 +15,7 @@ use Rattle.path_query.proofs.Examples.{plain_a, iri_a, iri_escaped, no_label_and
 use Rattle.bisim_spec.specs.declared.kind.Kind.{Kind}
 use Rattle.bisim_spec.specs.declared.kind.Kind.TheVariants as kind
 use Rattle.index_api.specs.declared.kinds.Via.{Via}
-use Rattle.index_api.specs.declared.kinds.Via.TheVariants.{Data, A, One, Fb}
+use Rattle.index_api.specs.declared.kinds.Via.TheVariants.{Data, A, One, Fb, B}
 use Rattle.script_read.specs.Commands.{Command, change, begin, end as end_group, insert, delete, path, branch, why, check, extents, sizes, forget, IsQuiet, IsSpelled, SpellsNodes, NoCommand}
 use Rattle.script_read.specs.FirstWords.{expression_text}
 
@@ -181,6 +181,7 @@ no_other_way Data e h = omega (arith, ap (λ l. slice_index l 0) h.0.1)
 no_other_way (A level) e h = omega (arith, ap (λ l. slice_index l 0) h.0.1)
 no_other_way One e h = omega (arith, ap (λ l. slice_index l 0) h.0.1)
 no_other_way Fb e h = omega (arith, ap (λ l. slice_index l 0) h.0.1)
+no_other_way (B level) e h = omega (arith, ap (λ l. slice_index l 0) h.0.1)
 
 -- `branch` takes branching queries, and `path` doesn't
 branch_spelled : IsSpelled (codes "branch fb  a\t") (branch Fb (tree.branch (tree.step (tree.label (codes "a")) tree.none) tree.end))
@@ -232,11 +233,13 @@ no_level_forgotten : (kind : Kind) → ¬ IsSpelled (codes "forget a0") (forget 
 no_level_forgotten kind.A h = omega (arith, ap (λ ws. length (second ws)) h)
 no_level_forgotten kind.One h = omega (arith, ap (λ ws. length (second ws)) h)
 no_level_forgotten kind.Fb h = omega (arith, ap (λ ws. slice_index (second ws) 0) h)
+no_level_forgotten kind.B h = omega (arith, ap (λ ws. slice_index (second ws) 0) h)
 
 no_data_forgotten : (kind : Kind) → ¬ IsSpelled (codes "forget data") (forget kind)
 no_data_forgotten kind.A h = omega (arith, ap (λ ws. slice_index (second ws) 0) h)
 no_data_forgotten kind.One h = omega (arith, ap (λ ws. slice_index (second ws) 0) h)
 no_data_forgotten kind.Fb h = omega (arith, ap (λ ws. slice_index (second ws) 0) h)
+no_data_forgotten kind.B h = omega (arith, ap (λ ws. slice_index (second ws) 0) h)
 
 -- the blocks of an index; its level has no zero in front
 extents_spelled : IsSpelled (codes " extents fb ") (extents Fb)
@@ -245,11 +248,15 @@ extents_spelled = (refl, tt)
 extents_level : IsSpelled (codes "extents a2") (extents (A 2))
 extents_level = (ap (λ d. codes "extents" ∷ (97 ∷ d) ∷ []) (sym (decimal_digit 2 (lit< tt))), lit< tt)
 
+extents_bounded : IsSpelled (codes "extents b1") (extents (B 1))
+extents_bounded = (ap (λ d. codes "extents" ∷ (98 ∷ d) ∷ []) (sym (decimal_digit 1 (lit< tt))), lit< tt)
+
 no_blocks_of_data : (via : Via) → ¬ IsSpelled (codes "extents data") (extents via)
 no_blocks_of_data Data h = h.1
 no_blocks_of_data (A level) h = (let e = ap (λ ws. slice_index (second ws) 0) h.0 in omega (arith, e))
 no_blocks_of_data One h = (let e = ap (λ ws. slice_index (second ws) 0) h.0 in omega (arith, e))
 no_blocks_of_data Fb h = (let e = ap (λ ws. slice_index (second ws) 0) h.0 in omega (arith, e))
+no_blocks_of_data (B level) h = (let e = ap (λ ws. slice_index (second ws) 0) h.0 in omega (arith, e))
 
 no_zero_in_level : (via : Via) → ¬ IsSpelled (codes "extents a01") (extents via)
 no_zero_in_level Data h = h.1
@@ -258,6 +265,7 @@ no_zero_in_level (A level) h =
     no_two_digits level 49 (let b = h.1 in omega (arith, b)) (sym d))
 no_zero_in_level One h = (let e = ap (λ ws. slice_index (second ws) 0) h.0 in omega (arith, e))
 no_zero_in_level Fb h = (let e = ap (λ ws. slice_index (second ws) 0) h.0 in omega (arith, e))
+no_zero_in_level (B level) h = (let e = ap (λ ws. slice_index (second ws) 0) h.0 in omega (arith, e))
 
 no_index_named : (via : Via) → ¬ IsSpelled (codes "extents") (extents via)
 no_index_named via h = omega (arith, ap length h.0)

@@ -13,7 +13,7 @@ use Rattle.branch_spec.specs.Trees.{Branch}
 use Rattle.branch_text.specs.Parsed.{Spells as SpellsQuery}
 use Rattle.bisim_spec.specs.declared.kind.Kind.{Kind}
 use Rattle.index_api.specs.declared.kinds.Via.{Via}
-use Rattle.index_api.specs.declared.kinds.Via.TheVariants.{Data, A, One, Fb}
+use Rattle.index_api.specs.declared.kinds.Via.TheVariants.{Data, A, One, Fb, B}
 use Rattle.index_api.specs.Spelling.{via_word, kind_word}
 use Rattle.script_read.specs.FirstWords.{first_word, behind_word, expression_text}
 
@@ -73,6 +73,7 @@ IsIndex Data = ⊥
 IsIndex (A level) = level < 2 ^ 32
 IsIndex One = Unit {0}
 IsIndex Fb = Unit {0}
+IsIndex (B level) = level < 2 ^ 32
 
 -- the graph itself, or an index
 abbrev pub IsVia : Via → Type 0
@@ -80,6 +81,7 @@ IsVia Data = Unit {0}
 IsVia (A level) = IsIndex (A level)
 IsVia One = IsIndex One
 IsVia Fb = IsIndex Fb
+IsVia (B level) = IsIndex (B level)
 
 -- the first words are this one and through what a query is asked
 abbrev pub AsksWith : List ℕ → List ℕ → Via → Type 0

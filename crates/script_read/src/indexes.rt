@@ -10,14 +10,36 @@ use crate::nodes::printed_number;
 use crate::words::{is_word, one_word};
 use index_api::{Kind, Via};
 
-/// The level of an index that is written as `a2` is.
-fn level_of(word: &[u8]) -> Option<u32>
-    ensures found { IfSome result (λ n. word.now ≡ 97 ∷ decimal n) }
-    ensures absent { IfNone result ((n : ℕ) → n < 2 ^ 32 → word.now ≢ 97 ∷ decimal n) }
+/// The level of an index of a family that is written with this letter, as `a2` is.
+fn level_of(word: &[u8], letter: u8) -> Option<u32>
+    ensures found { IfSome result (λ n. word.now ≡ letter ∷ decimal n) }
+    ensures absent { IfNone result ((n : ℕ) → n < 2 ^ 32 → word.now ≢ letter ∷ decimal n) }
 {
-    match word {
-        [b'a', digits @ ..] => printed_number(digits),
-        _ => None,
+    match word.split_first() {
+        Some((first, digits)) => {
+            if *first == letter {
+                printed_number(digits)
+            } else {
+                None
+            }
+        }
+        None => None,
+    }
+}
+
+/// The index of a family that the word names.
+fn family_index(word: &[u8]) -> Option<Via>
+    ensures found { IfSome result (λ v. word.now ≡ via_word v) }
+    ensures index { IfSome result IsIndex }
+    ensures no_a { IfNone result ((n : ℕ) → n < 2 ^ 32 → word.now ≢ 97 ∷ decimal n) }
+    ensures no_b { IfNone result ((n : ℕ) → n < 2 ^ 32 → word.now ≢ 98 ∷ decimal n) }
+{
+    match level_of(word, b'a') {
+        Some(level) => Some(Via::A(level)),
+        None => match level_of(word, b'b') {
+            Some(level) => Some(Via::B(level)),
+            None => None,
+        },
     }
 }
 
@@ -32,10 +54,7 @@ fn index_of(word: &[u8]) -> Option<Via>
     } else if is_word(word, "fb") {
         Some(Via::Fb)
     } else {
-        match level_of(word) {
-            Some(level) => Some(Via::A(level)),
-            None => None,
-        }
+        family_index(word)
     }
 }
 
@@ -63,6 +82,8 @@ fn kind_of(word: &[u8]) -> Option<Kind>
         Some(Kind::One)
     } else if is_word(word, "fb") {
         Some(Kind::Fb)
+    } else if is_word(word, "b") {
+        Some(Kind::B)
     } else {
         None
     }

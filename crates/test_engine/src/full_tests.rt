@@ -164,7 +164,7 @@ fn branch_gives<B: PathIndex>(
     are(&answer, nodes)
 }
 
-/// Whether these nodes answer the path, through both A(k)-indexes.
+/// Whether these nodes answer the path, through each level.
 fn path_gives_by_levels<B: PathIndex>(
     engine: &mut Engine<B>,
     alloc: Global,
@@ -178,6 +178,8 @@ fn path_gives_by_levels<B: PathIndex>(
 {
     path_gives(engine, alloc, Via::A(0), expr, nodes)
         && path_gives(engine, alloc, Via::A(1), expr, nodes)
+        && path_gives(engine, alloc, Via::B(0), expr, nodes)
+        && path_gives(engine, alloc, Via::B(1), expr, nodes)
 }
 
 /// Whether these nodes answer the path, through the other indexes and the graph itself.
@@ -230,7 +232,7 @@ fn path_text_gives<B: PathIndex>(
     }
 }
 
-/// Whether these nodes answer the branching query, through both A(k)-indexes.
+/// Whether these nodes answer the branching query, through each level.
 fn branch_gives_by_levels<B: PathIndex>(
     engine: &mut Engine<B>,
     alloc: Global,
@@ -244,6 +246,8 @@ fn branch_gives_by_levels<B: PathIndex>(
 {
     branch_gives(engine, alloc, Via::A(0), query, nodes)
         && branch_gives(engine, alloc, Via::A(1), query, nodes)
+        && branch_gives(engine, alloc, Via::B(0), query, nodes)
+        && branch_gives(engine, alloc, Via::B(1), query, nodes)
 }
 
 /// Whether these nodes answer the branching query, through the other indexes and the graph itself.

@@ -5,6 +5,7 @@ ghost use Rattle.bisim_spec.specs.Bisimilarity.{Bis};
 ghost use Rattle.ak_family.specs.LevelDrafts.{AreOver};
 
 use ak_family::{AkDraft, AkFamily};
+use bisim_spec::Sides;
 use label_graph::GraphView;
 use px_base::{Memory, NodeId, Steps};
 use std::alloc::Global;
@@ -27,7 +28,7 @@ fn is_bisimilar(
     requires second { IsNode (shape_of view.now) v }
     ensures { IfOk result (λ same. IsTrue same ↔ Bis (shape_of view.now) i u v) }
 {
-    let family = AkFamily::build(alloc, view, i)?;
+    let family = AkFamily::build(alloc, view, Sides::Parents, i)?;
     Ok(family.same(i, u, v))
 }
 
@@ -47,7 +48,7 @@ fn has_blocks(family: &AkFamily, blocks: &[u32]) -> bool {
 
 // Whether these are the nodes' blocks in the A(2)-index.
 fn are_blocks(alloc: Global, view: &GraphView<'_>, blocks: &[u32]) -> Result<bool, Memory> {
-    Ok(has_blocks(&AkFamily::build(alloc, view, 2)?, blocks))
+    Ok(has_blocks(&AkFamily::build(alloc, view, Sides::Parents, 2)?, blocks))
 }
 
 // The blocks of the nodes of two chains where the x stands alone, and where an edge leads from it to the second one.
@@ -122,7 +123,7 @@ fn check_family<L: Ledger>(rt: &impl Abort, alloc: Global, blank: Blank) -> Resu
 {
     let mut steps = Steps::<L>::new(blank);
     let graph = graph_from(alloc, b"aabb", &[(0, 2), (1, 2), (0, 3)], &mut steps)?;
-    let family = AkFamily::build(alloc, &graph.view(&mut steps), 1)?;
+    let family = AkFamily::build(alloc, &graph.view(&mut steps), Sides::Parents, 1)?;
     assert!(rt; has_blocks(&family, &[0, 0, 1, 1]));
     check_keys(rt, alloc, &family)?;
     check_level(rt, &family);

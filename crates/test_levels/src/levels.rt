@@ -1,7 +1,8 @@
 // Levels of small graphs.
 ghost use Rattle.std.specs.Prelude.{◌≡◌, ◌<◌};
 
-use bisim_levels::{Level, label_level, next_level, next_level_both};
+use bisim_levels::{Level, label_level, next_level};
+use bisim_spec::Sides;
 use label_graph::GraphView;
 use px_base::{Memory, Steps};
 use std::alloc::Global;
@@ -19,8 +20,8 @@ fn is_parted(block: &[Option<u32>], numbers: &[u32]) -> bool {
 // The level of labels, and the two above it.
 fn three_levels(alloc: Global, view: &GraphView<'_>) -> Result<(Level, Level, Level), Memory> {
     let labels = label_level(alloc, view)?;
-    let first = next_level(alloc, view, &labels.block)?;
-    let second = next_level(alloc, view, &first.block)?;
+    let first = next_level(alloc, view, Sides::Parents, &labels.block)?;
+    let second = next_level(alloc, view, Sides::Parents, &first.block)?;
     Ok((labels, first, second))
 }
 
@@ -51,8 +52,8 @@ fn each_level_parts_more(rt: HostRuntime) -> Result<(), Fail> {
 // The first level over parents, and the one over both sides.
 fn first_levels(alloc: Global, view: &GraphView<'_>) -> Result<(Level, Level), Memory> {
     let labels = label_level(alloc, view)?;
-    let parents = next_level(alloc, view, &labels.block)?;
-    let both = next_level_both(alloc, view, &labels.block)?;
+    let parents = next_level(alloc, view, Sides::Parents, &labels.block)?;
+    let both = next_level(alloc, view, Sides::Both, &labels.block)?;
     Ok((parents, both))
 }
 
@@ -61,6 +62,8 @@ fn check_both(rt: &impl Abort, parents: &Level, both: &Level) {
     assert_eq!(rt; parents.keys.len(), 2);
     assert_eq!(rt; parents.keys.find(&[1, 0]), Some(1));
     assert!(rt; is_parted(&both.block, &[0, 1, 2]));
+    assert_eq!(rt; both.keys.find(&[0, 3]), Some(0));
+    assert_eq!(rt; both.keys.find(&[1, 0]), Some(1));
 }
 
 fn check_children<L: Ledger>(rt: &impl Abort, alloc: Global, blank: Blank) -> Result<(), Fail>

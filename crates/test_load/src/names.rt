@@ -13,9 +13,13 @@ const TWO: &[u8] = b"<a> <p> \"b\" .
 ";
 
 fn load_two(alloc: Global) -> Result<(Graph, Names), Fail> {
+    load_text(alloc, TWO.to_vec(alloc)?)
+}
+
+fn load_text(alloc: Global, text: Vec<u8>) -> Result<(Graph, Names), Fail> {
     let mut files = Vec::new(alloc);
     let name = Text::from_bytes(alloc, b"g").map_err(|_| Memory)?;
-    files.push((name, TWO.to_vec(alloc)?))?;
+    files.push((name, text))?;
     let mut shelf = MemShelf::new(files, 8, Vec::new(alloc));
     let Ok(loaded) = load_named(alloc, &mut shelf, "g", &Limits::program()) else {
         return Err("nothing was loaded".into());
@@ -172,5 +176,69 @@ fn names_may_begin_empty(rt: HostRuntime) -> Result<(), Fail> {
     };
     let noted = note(rt.alloc(), &mut names, b"<a> <p> <a> .", placed)?;
     assert!(rt; noted == ((None, None, None), (Some(0), Some(1), Some(0))));
+    Ok(())
+}
+
+/// A line whose object is a literal of 50,000 letters and this one.
+fn long_line(alloc: Global, last: &[u8]) -> Result<Vec<u8>, Memory> {
+    let mut line = b"<a> <p> \"".to_vec(alloc)?;
+    for _ in 0..10_000 {
+        line.extend_from_slice(b"bcdef")?;
+    }
+    line.extend_from_slice(last)?;
+    line.extend_from_slice(b"\" .")?;
+    Ok(line)
+}
+
+/// A literal with a language tag has the node 2, and a long one the node 4.
+fn load_literals(alloc: Global) -> Result<(Graph, Names), Fail> {
+    let mut text = b"<a> <p> \"b\"@en-GB .\n".to_vec(alloc)?;
+    text.extend_from_slice(long_line(alloc, b"x")?.as_slice())?;
+    load_text(alloc, text)
+}
+
+#[test]
+fn tags_and_long_literals_are_found_in_other_spellings(rt: HostRuntime) -> Result<(), Fail> {
+    let (graph, names) = load_literals(rt.alloc())?;
+    let long = long_line(rt.alloc(), b"\\u0078")?;
+    let other = long_line(rt.alloc(), b"y")?;
+    let rows: [(&[u8], Numbers); 4] = [
+        (b"<a> <p> \"\\u0062\"@EN-gb .", (Some(0), Some(1), Some(2))),
+        (b"<a> <p> \"b\"@en .", (Some(0), None, None)),
+        (long.as_slice(), (Some(0), Some(3), Some(4))),
+        (other.as_slice(), (Some(0), None, None)),
+    ];
+    for (line, numbers) in rows {
+        let triple = triple_of(rt.alloc(), line)?;
+        assert!(rt; numbers_of(&names, &triple) == numbers, "{line:?}");
+        let deleted = match numbers.1 {
+            Some(_) => Ok(2),
+            None => Err(DeleteError::NoNode),
+        };
+        assert!(rt;
+            delete(rt.alloc(), &names, &graph, line)? == deleted,
+            "{line:?}"
+        );
+    }
+    Ok(())
+}
+
+#[test]
+fn noted_literals_are_found_in_other_spellings(rt: HostRuntime) -> Result<(), Fail> {
+    let mut names = Names::new(rt.alloc())?;
+    let long = long_line(rt.alloc(), b"x")?;
+    let lines: [(&[u8], u32); 2] = [(b"<a> <p> \"b\"@EN .", 1), (long.as_slice(), 3)];
+    for (line, triple) in lines {
+        let placed = Placed {
+            subject: 0,
+            triple,
+            object: triple + 1,
+        };
+        note(rt.alloc(), &mut names, line, placed)?;
+    }
+    let tagged = triple_of(rt.alloc(), b"<a> <p> \"b\"@eN .")?;
+    assert!(rt; numbers_of(&names, &tagged) == (Some(0), Some(1), Some(2)));
+    let escaped = triple_of(rt.alloc(), long_line(rt.alloc(), b"\\u0078")?.as_slice())?;
+    assert!(rt; numbers_of(&names, &escaped) == (Some(0), Some(3), Some(4)));
     Ok(())
 }

@@ -1,5 +1,6 @@
 // Whole runs in memory, and the real files and output once each.
 use ak_maintain::AkIndex;
+use any_index::full_engine;
 use pathindex_core::Engine;
 use pathindex_run::{HostShelf, HostSink, run};
 use px_base::{MemShelf, MemSink, Memory, Shelf, Sink, Text};
@@ -7,14 +8,15 @@ use std::alloc::Global;
 use std::fs;
 use std::test::Fail;
 
-/// What a run is given: its words, the files `s` and `g` where they are there, and the number of the one call on the
-/// shelf and of the one on the sink that fails, 0 for none.
+/// What a run is given: its words, the files `s` and `g` where they are there, the number of the one call on the
+/// shelf and of the one on the sink that fails, 0 for none, and whether the engine has all indexes, or an `AkIndex` alone.
 #[derive(Clone, Copy)]
 struct Given<'a> {
     words: &'a [&'a str],
     script: Option<&'a str>,
     graph: Option<&'a str>,
     failing: (u32, u32),
+    has_all: bool,
 }
 
 fn named(alloc: Global, words: &[&str]) -> Result<Vec<String>, Memory> {
@@ -51,13 +53,18 @@ fn shelf_of(alloc: Global, given: Given<'_>) -> Result<MemShelf, Memory> {
     Ok(MemShelf::new(files, 8, number(alloc, given.failing.0)?))
 }
 
-/// The status of the run over an engine with an `AkIndex`.
+/// The status of the run over an engine with all indexes, or with an `AkIndex` alone.
 fn run_over(
     alloc: Global,
     words: &[String],
+    has_all: bool,
     shelf: &mut MemShelf,
     sink: &mut MemSink,
 ) -> Result<u8, Memory> {
+    if has_all {
+        let mut engine = full_engine(alloc)?;
+        return Ok(run(alloc, words, &mut engine, shelf, sink));
+    }
     let mut indexes = Vec::new(alloc);
     indexes.push(AkIndex::new(alloc)?)?;
     let mut engine = Engine::new(indexes);
@@ -74,7 +81,7 @@ fn ends_over(
 ) -> Result<bool, Memory> {
     let words = named(alloc, given.words)?;
     let mut shelf = shelf_of(alloc, given)?;
-    let ended = run_over(alloc, &words, &mut shelf, sink)?;
+    let ended = run_over(alloc, &words, given.has_all, &mut shelf, sink)?;
     Ok(ended == status && sink.written() == output.as_bytes())
 }
 
@@ -100,6 +107,7 @@ fn script(text: &str) -> Given<'_> {
         script: Some(text),
         graph: None,
         failing: (0, 0),
+        has_all: false,
     }
 }
 
@@ -314,7 +322,7 @@ fn long_groups_are_refused(rt: HostRuntime) {
 }
 
 const USAGE: &str =
-    "usage: pathindex SCRIPT [--graph FILE] [--k N] [--without-one] [--without-fb] | pathindex --make SEED\n";
+    "usage: pathindex SCRIPT [--graph FILE] [--k N] [--without-one] [--without-fb] [--with-bk] | pathindex --make SEED\n";
 
 /// Words, a script, what it writes, and the status.
 const WORDS: &[(&[&str], &str, &str, u8)] = &[
@@ -443,6 +451,7 @@ fn with_graph<'a>(script: Option<&'a str>, graph: Option<&'a str>) -> Given<'a> 
         script,
         graph,
         failing: (0, 0),
+        has_all: false,
     }
 }
 
@@ -465,6 +474,25 @@ fn graph_files_are_loaded(rt: HostRuntime) {
         ..with_graph(Some("path data iri\n"), Some(TWO))
     };
     assert!(rt; ends(rt.alloc(), unnamed, "answers 0\n", 0));
+}
+
+// A name goes, and the blank node that had it stays, since somebody knows it.
+#[test]
+fn deletes_reach_the_one_index(rt: HostRuntime) {
+    let nameless = Given {
+        words: &["s", "--graph", "g", "--k", "0", "--without-fb"],
+        has_all: true,
+        ..with_graph(
+            Some(
+                "delete _:b0 <http://xmlns.com/foaf/0.1/name> \"Di\" .\nsizes\n\
+                path one <http://xmlns.com/foaf/0.1/knows>/iri/<http://xmlns.com/foaf/0.1/name>/literal\n",
+            ),
+            Some(PEOPLE),
+        )
+    };
+    let output =
+        "ok\nnodes 20 edges 22\na0 blocks 7 edges 9\none blocks 9 edges 9\nanswers 3 candidates 3 exact\nn4 n9 n15\n";
+    assert!(rt; ends(rt.alloc(), nameless, output, 0));
 }
 
 #[test]

@@ -59,7 +59,7 @@ fn shorten(read: Result<Option<Command>, ScriptError>) -> Short {
 
 #[test]
 fn lines_are_commands(rt: HostRuntime) -> Result<(), Fail> {
-    let rows: [(&[u8], Short); 31] = [
+    let rows: [(&[u8], Short); 33] = [
         (b"", Short::Quiet),
         (b" \t# node a", Short::Quiet),
         (b" node\ta ", Short::Node),
@@ -97,9 +97,11 @@ fn lines_are_commands(rt: HostRuntime) -> Result<(), Fail> {
         (b" extents\tfb ", Short::Extents(Via::Fb)),
         (b"extents a0", Short::Extents(Via::A(0))),
         (b"extents a4294967295", Short::Extents(Via::A(4294967295))),
+        (b"extents b1", Short::Extents(Via::B(1))),
         (b"sizes", Short::Sizes),
         (b"forget a", Short::Forget(Kind::A)),
         (b" forget fb\t", Short::Forget(Kind::Fb)),
+        (b"forget b", Short::Forget(Kind::B)),
     ];
     for (line, short) in rows {
         let read = shorten(read(rt.alloc(), line, &Limits::program()));

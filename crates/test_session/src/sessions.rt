@@ -1,11 +1,12 @@
 // A session of a small text, from its opening to its last question.
-use graph_update::{Change, Step};
+use graph_update::{Applied, Change, Step};
 use index_api::{Kind, Via};
 use pathindex_session::{Indexes, OpenError, QueryError, Session};
-use px_base::{Bits, Memory, NodeId, Refusal};
+use px_base::{Memory, NodeId, Refusal};
 use std::alloc::Global;
 use std::process::Abort;
 use std::test::Fail;
+use triples_read::{Triple, read_line};
 
 /// Ana is n0 and knows Bo, n2, who knows Cy, n4. The triples are n1 and n3.
 const TRIPLES: &[u8] = b"<x:ana> <x:knows> <x:bo> .\n<x:bo> <x:knows> <x:cy> .\n";
@@ -16,18 +17,14 @@ const ALL: Indexes = Indexes {
     k: 2,
     one: true,
     fb: true,
+    bk: true,
 };
-
-/// Whether the set has just these members.
-fn are(nodes: &Bits, wanted: &[NodeId]) -> bool {
-    nodes.count() as usize == wanted.len() && wanted.iter().all(|n| nodes.contains(*n))
-}
 
 /// Asks a path through each index, and compares the answers.
 fn asks(rt: &impl Abort, alloc: Global, session: &mut Session, wanted: &[NodeId]) {
-    for via in [Via::Data, Via::A(1), Via::One, Via::Fb] {
+    for via in [Via::Data, Via::A(1), Via::One, Via::Fb, Via::B(1)] {
         assert!(rt; session.path(alloc, via, KNOWN).is_ok());
-        assert!(rt; are(session.nodes(), wanted));
+        assert!(rt; session.nodes() == wanted);
     }
 }
 
@@ -44,6 +41,34 @@ fn changes_are_seen_through_each_index(rt: HostRuntime) -> Result<(), Fail> {
     asks(&rt, rt.alloc(), &mut session, &[2, 4]);
     links(&rt, rt.alloc(), &mut session)?;
     asks(&rt, rt.alloc(), &mut session, &[0, 2, 4]);
+    Ok(())
+}
+
+/// The triple that Cy knows Ana.
+fn cy_knows_ana(alloc: Global) -> Result<Triple, Memory> {
+    match read_line(alloc, b"<x:cy> <x:knows> <x:ana> .") {
+        Ok(Some(triple)) => Ok(triple),
+        _ => Err(Memory),
+    }
+}
+
+/// Inserts a triple and deletes it again, with what is answered in between.
+fn edits(rt: &impl Abort, alloc: Global, session: &mut Session) -> Result<(), Memory> {
+    let known = cy_knows_ana(alloc)?;
+    assert!(rt; session.delete(alloc, &known).is_err());
+    let applied = session.insert(alloc, known);
+    assert!(rt; applied.ok() == Some(Applied { first: 5, added: 1 }));
+    asks(rt, alloc, session, &[0, 2, 4]);
+    let known = cy_knows_ana(alloc)?;
+    assert!(rt; session.delete(alloc, &known).is_ok());
+    asks(rt, alloc, session, &[2, 4]);
+    Ok(())
+}
+
+#[test]
+fn triples_are_inserted_and_deleted(rt: HostRuntime) -> Result<(), Fail> {
+    let mut session = Session::open(rt.alloc(), TRIPLES, ALL).map_err(|_| Memory)?;
+    edits(&rt, rt.alloc(), &mut session)?;
     Ok(())
 }
 

@@ -2,6 +2,7 @@
 ghost use Rattle.std.specs.Prelude.{◌≡◌, ◌<◌};
 
 use affected_nodes::affected_nodes;
+use bisim_spec::Sides;
 use graph_update::{After, Change, Step, Verdict, judge};
 use px_base::{Limits, Memory, NodeId, Steps};
 use std::alloc::Global;
@@ -11,10 +12,11 @@ use std::sync::ledger::{Blank, Ledger};
 use std::test::Fail;
 use test_graphs::graph_from;
 
-// Whether these nodes are affected by the target, by at most two edges and by at most one.
+// Whether these nodes are affected by the target, by at most two edges and by at most one, where these sides count.
 fn are_within<L: Ledger>(
     alloc: Global,
     after: &After<'_>,
+    sides: Sides,
     target: NodeId,
     two: &[NodeId],
     one: &[NodeId],
@@ -23,7 +25,7 @@ fn are_within<L: Ledger>(
     if !after.is_live(target) {
         return Ok(false);
     }
-    let affected = affected_nodes(alloc, after, &[target], 2, steps)?;
+    let affected = affected_nodes(alloc, after, sides, &[target], 2, steps)?;
     Ok(affected.within(2) == two && affected.within(1) == one)
 }
 
@@ -40,8 +42,26 @@ fn check_link<L: Ledger>(rt: &impl Abort, alloc: Global, blank: Blank) -> Result
         return Err("not new".into());
     };
     let after = After::new(&graph, &change);
-    let found = are_within(alloc, &after, 1, &[1, 2, 3], &[1, 2], &mut steps)?;
-    assert!(rt; found);
+    let along = are_within(
+        alloc,
+        &after,
+        Sides::Parents,
+        1,
+        &[1, 2, 3],
+        &[1, 2],
+        &mut steps,
+    )?;
+    assert!(rt; along);
+    let around = are_within(
+        alloc,
+        &after,
+        Sides::Both,
+        2,
+        &[2, 3, 1, 0],
+        &[2, 3, 1],
+        &mut steps,
+    )?;
+    assert!(rt; around);
     Ok(())
 }
 

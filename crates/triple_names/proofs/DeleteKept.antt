@@ -16,6 +16,7 @@ use Rattle.triple_names.specs.Items.{Item, of_term, of_triple, same_triple, same
 use Rattle.triple_names.specs.Names.{Names, number_in, node_there}
 use Rattle.triple_names.specs.TripleChanges.{drop_with, delete_steps, delete_change, deletion}
 use Rattle.triple_names.specs.Represented.{IsImage, Represents, is_among, without_triple}
+use Rattle.triple_names.specs.KeptTriples.{DeleteKeeps}
 use Rattle.triple_names.proofs.ItemLaws.{agree, item_is, item_same, item_tells, item_apart, same_by, find_one, found_one, among_others, others_among, distinct_without, subject_part, triple_part, object_part, part_cases, part_triple, joins_from, joins_onto, join_cases, joined_items}
 use Rattle.triple_names.proofs.ImageSteps.{without_item, without_joins, Ends, is_there, there_tells, image_by, node_dropped}
 use Rattle.triple_names.proofs.InsertKept.{leaves_after}
@@ -267,3 +268,6 @@ delete_keeps limits g h n s t c r found e = by (node_there n g (of_triple t)) re
           spelled = λ u among. r.spelled u (among_others s t u among).0;
           image = image_deleted g n s t r.image m there;
         })
+
+pub delete_kept : (n : Names) (g : Graph) (t : Triple) (c : List Step) → delete_change n g t ≡ Some c → DeleteKeeps n g t c
+delete_kept n g t c found limits h s r e = delete_keeps limits g h n s t c r found e

@@ -11,7 +11,7 @@ use Rattle.triple_names.specs.Names.{Names, number_in}
 use Rattle.triple_names.specs.Represented.{IsImage, Represents, is_among}
 use Rattle.triple_names.specs.TripleChanges.{placed_in, noted}
 use Rattle.triple_names.specs.Histories.{Edit, insert, delete, Edits, EditsAll, edited, edited_all}
-use Rattle.triple_names.specs.Isomorphic.{IsIsomorphism}
+use Rattle.triple_names.specs.Isomorphic.{IsIsomorphism, Paired}
 use Rattle.triple_names.proofs.ItemLaws.{agree, find_one, found_one, joined_items}
 use Rattle.triple_names.proofs.ImageSteps.{same_number}
 use Rattle.triple_names.proofs.InsertKept.{insert_keeps}
@@ -25,10 +25,6 @@ edit_keeps limits (delete t) g h n k s r e = represents_by h n k (edited (delete
 pub edits_keep : (limits : Limits) (es : List Edit) (g h : Graph) (n k : Names) (s : List Triple) → Represents g n s → EditsAll limits es g n h k → Represents h k (edited_all es s)
 edits_keep limits [] g h n k s r e = represents_by h n k s e.1 (subst (λ j. Represents j n s) e.0 r)
 edits_keep limits (x ∷ xs) g h n k s r e = edits_keep limits xs e.0 h e.1 k (edited x s) (edit_keeps limits x g e.0 n e.1 s r e.2) e.3
-
--- the two numbers are those of one item
-abbrev pub Paired : Names → Names → List Triple → ℕ → ℕ → Type 0
-Paired n k s u v = (p : Item) × IsTrue (has_item s p) × (number_in n p ≡ Some u) × (number_in k p ≡ Some v)
 
 -- lists with the same triples pass a test alike
 any_alike : (p : Triple → Bool) (s t : List Triple) → ((u : Triple) → is_among s u ≡ is_among t u) → list_any p s ≡ list_any p t

@@ -17,6 +17,8 @@ use Rattle.triple_names.specs.Items.{Item, of_term, of_triple, same_triple, same
 use Rattle.triple_names.specs.Names.{Names, number_in, if_live, node_there}
 use Rattle.triple_names.specs.TripleChanges.{placed_in, node_unless, given_number, next_after, object_there, insert_steps, noted}
 use Rattle.triple_names.specs.Represented.{IsImage, Represents, is_among, with_triple}
+use Rattle.triple_names.specs.declared.inserting.Placed.{Placed}
+use Rattle.triple_names.specs.KeptTriples.{InsertKeeps}
 use Rattle.triple_names.proofs.ItemLaws.{triple_is, item_same, item_is, same_by, any_with, distinct_with, joined_items}
 use Rattle.triple_names.proofs.NumberLaws.{named, number_noted}
 use Rattle.triple_names.proofs.ImageSteps.{with_item, with_join, Ends, is_there, image_by, ensured, length_ensured, there_still, edge_added}
@@ -185,3 +187,7 @@ insert_keeps limits g h n s t r spelled e = subst (λ k. Represents k (noted t (
   ];
   image = image_inserted g n s t r.image;
 })
+
+pub insert_kept : (n : Names) (g : Graph) (t : Triple) (c : List Step) (p : Placed) → c ≡ insert_steps n g t → p ≡ placed_in n g t → InsertKeeps n g t c p
+insert_kept n g t c p steps placed limits h s r spelled e =
+    subst (λ q. Represents h (noted t q n) (with_triple s t)) (sym placed) (insert_keeps limits g h n s t r spelled (ap (λ k. apply k g limits) (sym steps) ∙ e))

@@ -1,25 +1,21 @@
 -- The numbers that the tables of names give.
-use Rattle.std.proofs.Common.{◌≡◌, ℕ, Bool, true, false, ◌||◌, cond, List, [], ◌∷◌, ◌++◌, length, map, Option, Some, None, refl, sym, ap, ◌∙◌, subst, inl, inr, ◌⊎◌, arith, true≢false, is_some}
-use Rattle.std.specs.Prelude.{nat_eq, position, bytes_eq, IsSome, if◌then◌else◌}
+use Rattle.std.proofs.Common.{◌≡◌, ℕ, Bool, true, false, ◌||◌, cond, List, [], ◌∷◌, ◌++◌, Option, Some, None, refl, sym, ap, ◌∙◌, true≢false, is_some}
 use Rattle.std.specs.List.{list_any}
 use Rattle.std.specs.Map.{keys_of, lookup}
-use Rattle.std.proofs.lemmas.Bool.Decides.{nat_tests}
-use Rattle.std.proofs.lemmas.List.{length-map, map-append}
+use Rattle.std.proofs.lemmas.List.{map-append}
 use Rattle.std.proofs.lemmas.List.Folds.{list_any-append}
-use Rattle.std.proofs.lemmas.List.Quantifiers.{position-Some}
 use Rattle.triples_read.specs.declared.term.Term.{Term}
 use Rattle.triples_read.specs.declared.term.Triple.{Triple}
 use Rattle.term_table.specs.Terms.{same_term, number_of, place_in}
 use Rattle.term_table.proofs.SameTerms.{term_is}
-use Rattle.triple_names.specs.declared.inserting.Placed.{Placed}
 use Rattle.triple_names.specs.declared.triple_table.Key.{Key}
 use Rattle.triple_names.specs.Items.{same_triple}
 use Rattle.triple_names.specs.Names.{triple_number}
 use Rattle.triple_names.specs.TableIndexes.{is_key_of, same_key, triple_at, AreKeysIn, HasKey, LacksKey}
 use Rattle.triple_names.specs.NameTables.{later_or, later_at, term_number, number_by_key, with_item, numbered, triples_at}
 use Rattle.triple_names.proofs.ItemLaws.{triple_is}
-use Rattle.triple_names.proofs.PlaceLaws.{is_some-position, position_append, position_push, stands_same, keys_push, lookup_none}
-use Rattle.triple_names.proofs.KeyLaws.{unknown_subject, unknown_predicate, unknown_object, placed_at, itself, key_test, key_of_same, known_number, numbers_stay, lookup_new}
+use Rattle.triple_names.proofs.PlaceLaws.{is_some-position, lookup_none}
+use Rattle.triple_names.proofs.KeyLaws.{key_of_same, known_number}
 
 pub none_by : {X : Type 0} (o : Option X) → is_some o ≡ false → o ≡ None
 none_by None h = refl

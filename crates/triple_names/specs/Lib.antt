@@ -7,3 +7,4 @@ pub mod TripleChanges
 pub mod Represented
 pub mod Histories
 pub mod Isomorphic
+pub mod KeptTriples

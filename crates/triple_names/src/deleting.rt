@@ -2,6 +2,7 @@
 ghost use Rattle.std.specs.Prelude.{◌≡◌, ◌<◌, ◌++◌, ◌||◌, ◌&&◌, None, Some, IfOk, IsErrOf, OnOk, nat_eq};
 ghost use Rattle.std.specs.List.{list_all};
 ghost use Rattle.triple_names.specs.TripleChanges.{is_only_neighbour, drop_with, delete_change};
+ghost use Rattle.triple_names.specs.KeptTriples.{DeleteKeeps};
 ghost use Rattle.triple_names.specs.declared.deleting.DeleteError.TheVariants.{Memory as NoMemory};
 
 use crate::inserting::{is_same, term_node, triple_node};
@@ -101,6 +102,8 @@ pub fn delete_change(
 ) -> Result<Change, DeleteError>
     ensures change { IfOk result (λ c. delete_change names.now.names graph.now.graph triple.now ≡ Some c) }
     ensures absent { IsErrOf result DeleteError.NoNode → delete_change names.now.names graph.now.graph triple.now ≡ None }
+    // Where the graph represents triples, it represents all but this one once the change is accepted.
+    ensures keeps { IfOk result (λ c. DeleteKeeps names.now.names graph.now.graph triple.now c) }
 {
     let Some(node) = triple_node(names, graph, triple) else {
         return Err(DeleteError::NoNode);

@@ -5,6 +5,7 @@ ghost use Rattle.term_table.specs.Terms.{same_term};
 ghost use Rattle.triple_names.specs.Items.{of_term, of_triple, term_label, predicate_label};
 ghost use Rattle.triple_names.specs.Names.{node_there, if_live};
 ghost use Rattle.triple_names.specs.TripleChanges.{given_number, next_after, object_there, placed_in, node_unless, insert_steps};
+ghost use Rattle.triple_names.specs.KeptTriples.{InsertKeeps};
 
 use crate::name_tables::Names;
 use graph_update::{Change, Step};
@@ -215,6 +216,8 @@ pub fn insert_change(
 ) -> Result<(Change, Placed), Memory>
     ensures change { IfOk result (λ r. r.0 ≡ insert_steps names.now.names graph.now.graph triple.now) }
     ensures placed { IfOk result (λ r. r.1 ≡ placed_in names.now.names graph.now.graph triple.now) }
+    // Where the graph represents triples, it represents this one too once the change is accepted and the numbers are noted.
+    ensures keeps { IfOk result (λ r. InsertKeeps names.now.names graph.now.graph triple.now r.0 r.1) }
 {
     let parts = find_parts(names, graph, triple);
     let placed = place(&parts, graph.created());

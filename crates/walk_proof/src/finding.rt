@@ -73,8 +73,8 @@ fn search<G: Digraph>(
 /// The least walk that ends in the node and whose word matches, over any graph; None exactly where the node is no
 /// answer. `Memory` comes only where memory runs out, or the graph has 2^32 - 1 numbers. Expected O(m (n + e)) for m tokens
 /// and the n nodes and e edges from which the end is reached by as many labels as the walk has, or fewer, O(m c) for each
-/// node of the walk, which has c children, and a look-up for each label of the expression. It takes up to some 50 bytes for
-/// each pair of a state and a node that is reached, and some 100 for each state.
+/// node of the walk, which has c children, and a look-up for each label of the expression. It takes up to some 100 bytes for
+/// each pair of a state and a node that is reached, and some 250 for each state.
 pub fn find_in<G: Digraph>(
     alloc: Global,
     g: &G,

@@ -5,7 +5,8 @@ use Rattle.graph_spec.specs.Shapes.{shape_of}
 use Rattle.graph_spec.proofs.GraphLaws.{is_shape}
 use Rattle.bisim_spec.specs.Reach.{reach}
 use Rattle.graph_update.specs.PendingChanges.{graph_after}
-use Rattle.affected_nodes.specs.ReadCosts.{children_cost}
+use Rattle.bisim_spec.specs.declared.sides.Sides.TheVariants as sides
+use Rattle.affected_nodes.specs.ReadCosts.{spread_cost}
 use Rattle.affected_nodes.specs.AffectedSearches.{IsSpread}
 use Rattle.affected_nodes.proofs.Distances.{met_first}
 use Rattle.affected_nodes.proofs.MetChildren.{first_again}
@@ -48,7 +49,7 @@ rounds-preserved g c =
     let next : IsReaching s (has c.args.targets.now) (length keys) keys2 =
     reaching_next s (has c.args.targets.now) c.rounds.from keys keys2 (is_shape (graph_after c.args.after.now) c.created-known.ensures.after) c.rounds.invariant.reaching spread in
     let prefix = first_again keys keys2 c.len-end.result spread.prefix end in
-    let same = ap (sum_by (children_cost c.args.after.now)) prefix in
+    let same = ap (sum_by (spread_cost sides.Parents c.args.after.now)) prefix in
     let so_far = c.rounds.invariant.cost in
     let cost = c.spread.ensures.cost in
     record {

@@ -1,7 +1,6 @@
-use Rattle.std.proofs.Common.{◌≡◌, ◌∙◌, ap, sym, subst, true}
+use Rattle.std.proofs.Common.{◌≡◌, sym, subst, true}
 use Rattle.std.specs.Prelude.{slice_get}
 use Rattle.graph_spec.specs.Graphs.{Graph, is_live, label_of}
-use Rattle.graph_update.specs.PendingChanges.{graph_after}
 use Rattle.graph_effects.proofs.Relabelled.{by_numbers}
 use Rattle.graph_effects.proofs.relabelling.labels_differ.Goals as goal
 

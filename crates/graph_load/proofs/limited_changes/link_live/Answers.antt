@@ -10,13 +10,13 @@ use Rattle.change_spec.proofs.SingleSteps.{one_step}
 use Rattle.graph_steps.proofs.GrownCounts.{edges_same}
 use Rattle.graph_load.proofs.limited_changes.link_live.Goals as goal
 
-pub returns-then-has_edge-clause-made : goal.returns-then-has_edge-clause-made
-returns-then-has_edge-clause-made c =
+pub returns-then-edge_before-clause-made : goal.returns-then-edge_before-clause-made
+returns-then-edge_before-clause-made c =
     let g = c.args.graph.now.graph in
     let u = c.args.from in
     let v = c.args.to in
     let limits = c.args.limits.now in
-    let there : has_edge g u v ≡ true = sym c.has_edge.ensures ∙ c.if-has_edge.true in
+    let there : has_edge g u v ≡ true = sym c.edge_before.ensures ∙ c.if-edge_before.true in
     one_step (link u v) g limits
     ∙ ap (λ b. if b then (if edge_fits g limits u v then Ok (with_edge g u v) else Err Limit) else Err NoNode) (and_from (is_live g u) (is_live g v) c.requires.from c.requires.onto)
     ∙ ap (λ b. if b || nat_lt (set.len g.edges) limits.edges then Ok (with_edge g u v) else Err Limit) there

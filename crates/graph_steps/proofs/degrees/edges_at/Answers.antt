@@ -1,44 +1,23 @@
-use Rattle.std.proofs.Common.{◌∙◌, ap, arith, take, List}
+use Rattle.std.proofs.Common.{◌∙◌, ap, sym, subst, arith}
+use Rattle.std.specs.Prelude.{IsTrue}
+use Rattle.graph_spec.specs.Graphs.{is_live}
 use Rattle.change_spec.specs.Steps.{after}
-use Rattle.change_spec.specs.Named.{is_dropped}
-use Rattle.graph_steps.specs.StepLists.{step_of, steps_of}
-use Rattle.graph_steps.specs.Degrees.{staying}
-use Rattle.graph_steps.proofs.FrontSteps.{after_at, can_at, all_taken}
-use Rattle.graph_steps.proofs.NodeEdges.{staying_next, staying_all, staying_few, gone_within}
+use Rattle.change_spec.specs.Places.{CanMakeAll}
+use Rattle.graph_steps.specs.Counted.{touching}
+use Rattle.graph_steps.proofs.NamedParts.{counted}
 use Rattle.graph_steps.proofs.degrees.edges_at.Goals as goal
 
-pub count_on-count-requires : goal.count_on-count-requires
-count_on-count-requires c =
-    let ss = c.args.front.now in
-    let i = c.loop-i.i in
-    let g = c.args.graph.now.graph in
-    let few = staying_few ss i g c.args.u (is_dropped (steps_of ss)) (let t = c.loop-i-test.true in omega (arith, t)) in
-    let count = c.loop-i.invariant in
-    let edges = c.edge_count-edges.ensures.count in
-    let most = c.edge_count-edges.ensures.few in
-    let short = c.requires.few in
-    let t = c.loop-i-test.true in
-    record { few = omega (arith, few, count, edges, most, short, t) }
+pub edges_behind-requires-clause-few : goal.edges_behind-requires-clause-few
+edges_behind-requires-clause-few c =
+    let len = counted c.steps.result.now c.args.front.now c.steps.ensures in
+    let few = c.requires.few in
+    omega (arith, len, few)
 
-pub loop-i-preserved : goal.loop-i-preserved
-loop-i-preserved c =
-    let ss = c.args.front.now in
-    let i = c.loop-i.i in
-    let s = c.index-front-i.result in
-    let g = c.args.graph.now.graph in
-    let h = after (steps_of (take i ss)) g in
-    let more = after_at ss i s g c.loop-i-test.true c.index-front-i.is in
-    let law = staying_next (step_of s) h c.args.u (is_dropped (steps_of ss)) (can_at ss i s g c.loop-i-test.true c.index-front-i.is c.requires.can)
-    (gone_within ss i s c.loop-i-test.true c.index-front-i.is) in
-    let same = ap (λ k. staying k c.args.u (is_dropped (steps_of ss))) more in
-    let was = c.loop-i.invariant in
-    let now = c.count_on-count.ensures in
-    omega (arith, law, same, was, now)
+pub edges_behind-requires-clause-can : goal.edges_behind-requires-clause-can
+edges_behind-requires-clause-can c = subst (λ k. CanMakeAll k c.args.graph.now.graph) (sym c.steps.ensures) c.requires.can
+
+pub edges_behind-requires-clause-live : goal.edges_behind-requires-clause-live
+edges_behind-requires-clause-live c = subst (λ k. IsTrue (is_live (after k c.args.graph.now.graph) c.args.u)) (sym c.steps.ensures) c.requires.live
 
 pub returns : goal.returns
-returns c =
-    let ss = c.args.front.now in
-    let g = c.args.graph.now.graph in
-    let past = c.loop-i-test.false in
-    c.loop-i.invariant ∙ ap (λ (xs : List _). staying (after (steps_of xs) g) c.args.u (is_dropped (steps_of ss))) (all_taken ss c.loop-i.i past)
-    ∙ staying_all ss g c.args.u c.edge_count-edges.ensures.graph c.requires.can
+returns c = c.edges_behind.ensures ∙ ap (λ k. touching (after k c.args.graph.now.graph) c.args.u) c.steps.ensures

@@ -1,22 +1,16 @@
-use Rattle.std.proofs.Common.{◌∙◌, ap, sym, arith, length, take}
+use Rattle.std.proofs.Common.{◌∙◌, ap, sym, length, nat_lt}
+use Rattle.std.specs.Prelude.{◌&&◌, ◌||◌, not}
 use Rattle.graph_spec.specs.Graphs.{is_live}
 use Rattle.change_spec.specs.Steps.{after}
-use Rattle.graph_steps.specs.StepLists.{steps_of}
-use Rattle.graph_steps.proofs.FrontSteps.{after_at, can_at}
+use Rattle.change_spec.proofs.NamedNodes.{is_added, live_after}
 use Rattle.graph_steps.proofs.fronts.is_live.Goals as goal
 
-pub loop-i-preserved : goal.loop-i-preserved
-loop-i-preserved c =
-    let ss = c.args.front.now in
-    let i = c.loop-i.i in
+pub returns : goal.returns
+returns c =
     let g = c.args.graph.now.graph in
-    let inv = c.loop-i.invariant in
-    let more = after_at ss i c.index-front-i.result g c.loop-i-test.true c.index-front-i.is in
-    let can = can_at ss i c.index-front-i.result g c.loop-i-test.true c.index-front-i.is c.requires.can in
-    let most = c.life_after-life.ensures.most in
-    let few = inv.few in
-    record {
-      live = c.life_after-life.ensures.live (after (steps_of (take i ss)) g) inv.live inv.next can ∙ ap (λ k. is_live k c.args.n) (sym more);
-      next = c.life_after-life.ensures.next (after (steps_of (take i ss)) g) inv.next ∙ ap (λ k. length k.allocated) (sym more);
-      few = omega (arith, most, few);
-    }
+    let f = c.args.front.now in
+    let n = c.args.n in
+    let added = c.is_added.ensures ∙ ap (λ k. not (nat_lt n (length g.allocated)) && nat_lt n k) c.requires.created in
+    let there = c.either-there.ensures ∙ ap (λ b. b || c.is_added.result) c.is_live.ensures.live ∙ ap (λ b. is_live g n || b) added in
+    c.is_left.ensures ∙ ap (λ b. b && not c.is_dropped.result) there ∙ ap (λ b. (is_live g n || is_added g (after f g) n) && not b) c.is_dropped.ensures
+    ∙ sym (live_after f g n c.requires.can)

@@ -1,10 +1,9 @@
-use Rattle.graph_update.proofs.NamedParts.{step_there, place_there}
+use Rattle.std.proofs.Common.{◌≡◌, ◌<◌, ◌+◌, ◌∷◌, sym, subst, length, drop}
+use Rattle.graph_steps.specs.StepLists.{step_of}
 use Rattle.graph_update.proofs.neighbours.step_at.Goals as goal
 
-pub bounds-steps-i : goal.bounds-steps-i
-bounds-steps-i c = place_there c.steps.result.now c.args.change.now c.args.i c.steps.ensures c.requires
+pub step-requires : goal.step-requires
+step-requires c = subst (λ k. c.args.i < length k) (sym c.whole.ensures) c.requires
 
 pub returns : goal.returns
-returns c =
-    step_there c.steps.result.now c.args.change.now c.args.i c.index-steps-i.result c.steps.ensures
-    (place_there c.steps.result.now c.args.change.now c.args.i c.steps.ensures c.requires) c.index-steps-i.is
+returns c = subst (λ k. drop c.args.i k ≡ step_of c.step.result.now ∷ drop (c.args.i + 1) k) c.whole.ensures c.step.ensures

@@ -1,19 +1,28 @@
-use Rattle.std.proofs.Common.{◌∙◌, ap, sym, arith, length, take}
-use Rattle.change_spec.specs.Steps.{after}
-use Rattle.graph_steps.specs.StepLists.{steps_of}
-use Rattle.graph_steps.proofs.FrontSteps.{after_at}
+use Rattle.std.proofs.Common.{arith}
+use Rattle.graph_steps.proofs.NodePlaces.{places_count, places_few}
 use Rattle.graph_update.proofs.pending.created_after.Goals as goal
 
-pub loop-i-preserved : goal.loop-i-preserved
-loop-i-preserved c =
-    let ss = c.args.steps.now in
-    let i = c.loop-i.i in
-    let g = c.args.graph.now.graph in
-    let inv = c.loop-i.invariant in
-    let more = after_at ss i c.index-steps-i.result g c.loop-i-test.true c.index-steps-i.is in
-    let most = c.created_by-created.ensures.most in
-    let few = inv.few in
-    record {
-      created = c.created_by-created.ensures.created (after (steps_of (take i ss)) g) inv.created ∙ ap (λ k. length k.allocated) (sym more);
-      few = omega (arith, most, few);
-    }
+pub overflow_cast-result : goal.overflow_cast-result
+overflow_cast-result c =
+    let added = c.added.ensures in
+    let most = places_few 0 c.args.change.now in
+    let short = c.requires.few in
+    omega (arith, added, most, short)
+
+pub overflow_add-result : goal.overflow_add-result
+overflow_add-result c =
+    let count = c.created.ensures.count in
+    let few = c.created.ensures.few in
+    let added = c.added.ensures in
+    let most = places_few 0 c.args.change.now in
+    let short = c.requires.few in
+    omega (arith, count, few, added, most, short)
+
+pub returns-clause-created : goal.returns-clause-created
+returns-clause-created c =
+    let count = c.created.ensures.count in
+    let added = c.added.ensures in
+    let most = places_few 0 c.args.change.now in
+    let short = c.requires.few in
+    let law = places_count 0 c.args.change.now c.args.graph.now.graph in
+    omega (arith, count, added, most, short, law)

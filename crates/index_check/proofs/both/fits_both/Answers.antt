@@ -1,5 +1,5 @@
 use Rattle.std.proofs.lemmas.Result.{IfOk-weaker}
-use Rattle.std.proofs.Common.{◌↔◌, Bool, IsTrue}
+use Rattle.std.proofs.Common.{◌↔◌, Bool, IsTrue, true≢false, sym, ◌∙◌}
 use Rattle.bisim_spec.specs.Bisimilarity.{FB}
 use Rattle.index_check.specs.NumberedShapes.{digraph_shape}
 use Rattle.index_check.specs.ComparedLists.{AreSame}
@@ -16,3 +16,6 @@ returns g c =
       λ a. e.1 (same_where_right s c.deref.result.now c.args.block.now (FB s) right a),
     ))
     c.are_same.ensures
+
+pub returns-then-not-may : goal.returns-then-not-may
+returns-then-not-may g c = (λ h. absurd (true≢false (sym h)), λ a. absurd (true≢false (sym (c.in_ok-may.ensures a) ∙ c.if-not-may.true)))

@@ -4,7 +4,6 @@ use Rattle.graph_update.specs.PendingChanges.{graph_after}
 use Rattle.graph_effects.proofs.ListedEffects.{pair_is, lost_begins, lost_ends}
 use Rattle.ak_family.specs.LevelDrafts.{blocks_shown}
 use Rattle.level_update.specs.LevelEffects.{HaveSupport, IsEdgeLowered}
-use Rattle.level_update.proofs.Bases.{bases}
 use Rattle.level_update.proofs.EffectLevels.{old_some, lost_some, way_lowered, same_next}
 use Rattle.level_update.proofs.counting.lower_edges.Goals as goal
 
@@ -12,7 +11,7 @@ pub lower_edge-requires-clause-from : goal.lower_edge-requires-clause-from
 lower_edge-requires-clause-from c =
     let pair = pair_is c.lost-lost.result.now c.args.effects.now.lost c.lowers.edge-index (0, 0) c.lost-lost.ensures c.lowers-test.true in
     let below = subst (λ (xs : List (ℕ × ℕ)). c.lowers.edge-index < length xs) c.lost-lost.ensures c.lowers-test.true in
-    let base = bases c.args.after.now.before c.args.family.now c.requires.before.graph c.requires.before.fits c.requires.before.family in
+    let base = c.requires.before.bases in
     subst (λ (p : ℕ × ℕ). IsSome (at (blocks_shown c.args.family.now c.lowers.draft c.args.i) p.0)) (sym pair)
     (old_some c.args.after.now.before (graph_after c.args.after.now) _ c.args.effects.now c.args.family.now c.lowers.draft c.args.i _ c.requires.effects base c.requires.level
     (lost_begins c.args.after.now.before (graph_after c.args.after.now) c.args.effects.now c.lowers.edge-index c.requires.effects c.requires.before.graph below) c.lowers.invariant.way)
@@ -21,7 +20,7 @@ pub lower_edge-requires-clause-onto : goal.lower_edge-requires-clause-onto
 lower_edge-requires-clause-onto c =
     let pair = pair_is c.lost-lost.result.now c.args.effects.now.lost c.lowers.edge-index (0, 0) c.lost-lost.ensures c.lowers-test.true in
     let below = subst (λ (xs : List (ℕ × ℕ)). c.lowers.edge-index < length xs) c.lost-lost.ensures c.lowers-test.true in
-    let base = bases c.args.after.now.before c.args.family.now c.requires.before.graph c.requires.before.fits c.requires.before.family in
+    let base = c.requires.before.bases in
     subst (λ (p : ℕ × ℕ). IsSome (at (blocks_shown c.args.family.now c.lowers.draft c.args.i) p.1)) (sym pair)
     (old_some c.args.after.now.before (graph_after c.args.after.now) _ c.args.effects.now c.args.family.now c.lowers.draft c.args.i _ c.requires.effects base c.requires.level
     (lost_ends c.args.after.now.before (graph_after c.args.after.now) c.args.effects.now c.lowers.edge-index c.requires.effects c.requires.before.graph below) c.lowers.invariant.way)

@@ -1,14 +1,12 @@
 use Rattle.graph_update.specs.PendingChanges.{graph_after}
 use Rattle.level_update.specs.LevelEffects.{lone_nodes}
-use Rattle.level_update.proofs.Bases.{bases}
 use Rattle.level_update.proofs.EffectLevels.{way_start, way_done, same_next}
 use Rattle.level_update.proofs.effects.draft_level.Goals as goal
 
 pub join_nodes-requires-clause-start : goal.join_nodes-requires-clause-start
 join_nodes-requires-clause-start c =
-    let b = c.requires.before in
     way_start c.args.after.now.before (graph_after c.args.after.now) (lone_nodes c.args.effects.now) c.args.family.now c.args.draft.now c.args.i
-    (bases c.args.after.now.before c.args.family.now b.graph b.fits b.family) c.requires.level c.requires.over c.requires.none c.requires.below
+    c.requires.before.bases c.requires.level c.requires.over c.requires.none c.requires.below
 
 pub returns-in_err-lower_edges-clause-others : goal.returns-in_err-lower_edges-clause-others
 returns-in_err-lower_edges-clause-others c = same_next c.args.i c.args.draft.now c.join_nodes.new.draft c.lower_edges.new.draft c.join_nodes.ensures.others c.lower_edges.ensures.others
@@ -27,9 +25,8 @@ returns-in_err-raise_edges-clause-others c =
 
 pub returns-clause-drafted : goal.returns-clause-drafted
 returns-clause-drafted c =
-    let b = c.requires.before in
-    way_done c.args.after.now.before (graph_after c.args.after.now) c.args.effects.now c.args.family.now c.raise_edges.new.draft c.args.i c.requires.effects b.graph_after
-    (bases c.args.after.now.before c.args.family.now b.graph b.fits b.family) c.requires.level c.in_ok-raise_edges.ensures.raised
+    way_done c.args.after.now.before (graph_after c.args.after.now) c.args.effects.now c.args.family.now c.raise_edges.new.draft c.args.i c.requires.effects c.requires.before.graph_after
+    c.requires.before.bases c.requires.level c.in_ok-raise_edges.ensures.raised
 
 pub returns-clause-others : goal.returns-clause-others
 returns-clause-others c =

@@ -1,7 +1,7 @@
 use Rattle.std.proofs.Common.{◌+◌, ◌*◌, ◌≤◌, arith, length}
 use Rattle.std.specs.List.{sum_by}
 use Rattle.graph_update.specs.PendingChanges.{graph_after}
-use Rattle.level_update.specs.LevelCosts.{place_cost}
+use Rattle.level_update.specs.LevelCosts.{move_cost}
 use Rattle.level_update.specs.LevelEffects.{lone_nodes}
 use Rattle.level_update.proofs.EffectLevels.{below_drafted, drafted_next, drafted_all}
 use Rattle.level_update.proofs.RelabelledLevels.{so_many}
@@ -27,7 +27,7 @@ returns-in_err-draft_whole-clause-cost g c =
     let count = c.k-i-end.ensures.count in
     let so_far = c.levels.invariant.cost in
     let here = c.draft_whole.ensures.cost in
-    so_many (c.levels.i + 1) (length c.args.family.now) (sum_by (place_cost c.args.after.now) c.args.effects.now.relabelled) c.args.steps.now c.draft_whole.new.steps (omega (arith, test, count))
+    so_many (c.levels.i + 1) (length c.args.family.now) (sum_by (move_cost c.args.after.now) c.args.effects.now.relabelled) c.args.steps.now c.draft_whole.new.steps (omega (arith, test, count))
     (omega (arith, so_far, here))
 
 pub returns-clause-drafted : goal.returns-clause-drafted
@@ -40,4 +40,4 @@ pub returns-clause-cost : goal.returns-clause-cost
 returns-clause-cost g c =
     let count = c.k-i-end.ensures.count in
     let past = c.levels.auto.i-end in
-    so_many c.levels.i (length c.args.family.now) (sum_by (place_cost c.args.after.now) c.args.effects.now.relabelled) c.args.steps.now c.levels.steps (omega (arith, past, count)) c.levels.invariant.cost
+    so_many c.levels.i (length c.args.family.now) (sum_by (move_cost c.args.after.now) c.args.effects.now.relabelled) c.args.steps.now c.levels.steps (omega (arith, past, count)) c.levels.invariant.cost

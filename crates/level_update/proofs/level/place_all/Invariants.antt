@@ -7,6 +7,6 @@ use Rattle.level_update.proofs.level.place_all.Given as goal
 
 abbrev pub invariant-loop-n : goal.invariant-loop-n
 invariant-loop-n g l = record {
-  placed : ArePlaced (graph_after l.after) l.family l.initial.draft l.draft l.i (take l.n-index l.nodes);
-  cost : l.steps ≤ l.initial.steps + sum_by (place_cost l.after) (take l.n-index l.nodes);
+  placed : ArePlaced l.sides (graph_after l.after) l.family l.initial.draft l.draft l.i (take l.n-index l.nodes);
+  cost : l.steps ≤ l.initial.steps + sum_by (place_cost l.sides l.after) (take l.n-index l.nodes);
 }

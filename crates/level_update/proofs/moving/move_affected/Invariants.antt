@@ -9,8 +9,8 @@ use Rattle.level_update.proofs.moving.move_affected.Given as goal
 
 abbrev pub invariant-loop-i : goal.invariant-loop-i
 invariant-loop-i g l = record {
-  moving : HasMovedAffected (has l.targets) (graph_after l.after) l.family l.draft;
-  keyed : AreKeyedTo (has l.targets) (graph_after l.after) l.family l.draft l.i;
+  moving : HasMovedAffected l.sides (has l.ends) (graph_after l.after) l.family l.draft;
+  keyed : AreKeyedTo l.sides (has l.ends) (graph_after l.after) l.family l.draft l.i;
   lowest : blocks_shown l.family l.draft 0 ≡ blocks_shown l.family l.initial.draft 0;
-  cost : l.steps ≤ l.fn.steps + near_cost l.after (has l.targets) l.k + l.i * (3 * near_cost l.after (has l.targets) l.k);
+  cost : l.steps ≤ l.fn.steps + near_cost l.sides l.after (has l.ends) l.k + l.i * (3 * near_cost l.sides l.after (has l.ends) l.k);
 }

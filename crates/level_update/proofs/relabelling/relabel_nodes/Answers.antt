@@ -3,7 +3,7 @@ use Rattle.std.specs.List.{sum_by}
 use Rattle.one_spec.proofs.Sums.{sum_first, sum_next}
 use Rattle.graph_update.specs.PendingChanges.{graph_after}
 use Rattle.graph_effects.proofs.ListedEffects.{relabelled_live, nodes_next}
-use Rattle.level_update.specs.LevelCosts.{place_cost}
+use Rattle.level_update.specs.LevelCosts.{move_cost}
 use Rattle.level_update.specs.LevelEffects.{lone_nodes, IsLevelRelabelled}
 use Rattle.level_update.proofs.EffectLevels.{own_some, own_labelled, below_same, same_next}
 use Rattle.level_update.proofs.RelabelledLevels.{relabelled_next}
@@ -39,7 +39,7 @@ moves-preserved g c =
     let i = c.moves.n-index in
     let under = below_same (lone_nodes e) g2 c.args.family.now c.args.draft.now c.moves.draft c.args.i c.moves.invariant.others c.requires.below in
     let live = relabelled_live c.args.after.now.before g2 list e i c.requires.effects c.relabelled-list.ensures c.moves-test.true in
-    let more = sum_next (place_cost c.args.after.now) list i 0 c.moves-test.true in
+    let more = sum_next (move_cost c.args.after.now) list i 0 c.moves-test.true in
     let so_far = c.moves.invariant.cost in
     let here = c.relabel_node.ensures.cost in
     record {
@@ -57,8 +57,8 @@ returns-in_err-relabel_node-clause-others g c =
 
 pub returns-in_err-relabel_node-clause-cost : goal.returns-in_err-relabel_node-clause-cost
 returns-in_err-relabel_node-clause-cost g c =
-    let first = sum_first (place_cost c.args.after.now) c.relabelled-list.result.now c.moves.n-index 0 c.moves-test.true in
+    let first = sum_first (move_cost c.args.after.now) c.relabelled-list.result.now c.moves.n-index 0 c.moves-test.true in
     let so_far = c.moves.invariant.cost in
     let here = c.relabel_node.ensures.cost in
-    let same = ap (sum_by (place_cost c.args.after.now)) c.relabelled-list.ensures in
+    let same = ap (sum_by (move_cost c.args.after.now)) c.relabelled-list.ensures in
     omega (arith, first, so_far, here, same)

@@ -1,5 +1,5 @@
-use Rattle.std.proofs.Common.{◌∙◌, inr, refl, sym, ap, subst}
-use Rattle.bisim_spec.specs.declared.kind.Kind.TheVariants.{Fb}
+use Rattle.std.proofs.Common.{◌∙◌, inr, not, refl, sym, ap, subst}
+use Rattle.bisim_spec.specs.declared.kind.Kind.TheVariants.{Fb, B}
 use Rattle.command_line.specs.FormValues.{settings_value}
 use Rattle.pathindex_core.specs.Engines.{graph_in, by_meaning}
 use Rattle.script_interpreter.specs.States.{left_out}
@@ -17,8 +17,9 @@ run_open-requires-clause-ready g c = record { sound = c.open.ensures.sound; open
 
 pub returns-in-Ok-clause-does : goal.returns-in-Ok-clause-does
 returns-in-Ok-clause-does g c =
-    c.run_open.ensures.does _ (opened_for c.args.names.names (settings_value c.args.settings.now) _ (by_meaning g.B.PathIndex.meaning c.leave_out-2.new.engine) _ _ c.in-Ok.ensures.opened c.in-Ok.ensures.built c.open.ensures.kinds c.open.ensures.sound
-    (c.leave_out-2.ensures.kinds ∙ ap (left_out c.args.settings.now.without_fb Fb) c.leave_out.ensures.kinds))
+    c.run_open.ensures.does _ (opened_for c.args.names.names (settings_value c.args.settings.now) _ (by_meaning g.B.PathIndex.meaning c.leave_out-3.new.engine) _ _ c.in-Ok.ensures.opened c.in-Ok.ensures.built c.open.ensures.kinds c.open.ensures.sound
+    (c.leave_out-3.ensures.kinds
+    ∙ ap (left_out (not c.args.settings.now.with_bk) B) (c.leave_out-2.ensures.kinds ∙ ap (left_out c.args.settings.now.without_fb Fb) c.leave_out.ensures.kinds)))
 
 pub returns-in-Err-clause-does : goal.returns-in-Err-clause-does
 returns-in-Err-clause-does g c = stopped (settings_value c.args.settings.now) _ (g.H.Shelf.files c.args.shelf.now) (g.K.Sink.written c.args.sink.now) 7 _ (inr refl)

@@ -1,5 +1,8 @@
 use Rattle.std.proofs.Common.{map, string_bytes}
 use Rattle.command_line.specs.Words.{form_of}
+use Rattle.index_api.specs.IndexKinds.{kinds_of}
+use Rattle.pathindex_core.specs.Engines.{by_meaning}
+use Rattle.script_interpreter.specs.EngineStates.{IsIn}
 use Rattle.pathindex_run.proofs.RunLemmas.{unread}
 use Rattle.pathindex_run.proofs.CompleteLemmas.{made_status, made_completes}
 use Rattle.pathindex_run.proofs.MadeProper.{made_ends}
@@ -21,7 +24,9 @@ returns-in-Ok-Make-clause-status g c =
 pub returns-in-Ok-Make-clause-complete : goal.returns-in-Ok-Make-clause-complete
 returns-in-Ok-Make-clause-complete g c =
     let e = rw c.in-Ok-Make.field-0-is at c.in-Ok-Make.ensures.exact in
-    rw (← e) (made_completes c.in-Ok-Make.seed _ (g.H.Shelf.files c.args.shelf.now) _ _ _ _ _ _ _ c.run_made.ensures.does c.run_made.ensures.status)
+    rw (← e) (made_completes c.in-Ok-Make.seed (kinds_of (map g.B.PathIndex.meaning c.args.engine.now.boxes)) (g.H.Shelf.files c.args.shelf.now) _ _ _ _ _ _
+    (IsIn (by_meaning g.B.PathIndex.meaning c.run_made.new.engine)) c.run_made.ensures.does c.run_made.ensures.status)
 
 pub returns-in-Ok-Make-clause-made : goal.returns-in-Ok-Make-clause-made
-returns-in-Ok-Make-clause-made g c = λ seed e f. made_ends c.in-Ok-Make.seed _ _ _ _ _ _ _ c.run_made.ensures.does c.run_made.ensures.status f
+returns-in-Ok-Make-clause-made g c = λ seed e f.
+    made_ends c.in-Ok-Make.seed (kinds_of (map g.B.PathIndex.meaning c.args.engine.now.boxes)) _ _ _ _ _ (IsIn (by_meaning g.B.PathIndex.meaning c.run_made.new.engine)) c.run_made.ensures.does c.run_made.ensures.status f

@@ -1,7 +1,8 @@
 use Rattle.std.proofs.Common.{◌≡◌, refl, sym, subst}
 use Rattle.bisim_spec.specs.declared.kind.Kind.TheVariants.{A, One, Fb}
 use Rattle.test_engine.proofs.failing_index.with_failing_engine.OwnLists.{own-1}
-use Rattle.any_index.proofs.ThreeBoxes.{three_apart, kept_is_one}
+use Rattle.any_index.proofs.FourBoxes.{kept_is_one}
+use Rattle.test_engine.proofs.ThreeBoxes.{three_apart}
 use Rattle.test_engine.proofs.failing_index.with_failing_engine.Goals as goal
 
 pub new-engine-requires : goal.new-engine-requires

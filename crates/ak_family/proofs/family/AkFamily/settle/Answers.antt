@@ -3,7 +3,7 @@ use Rattle.keyed_quotient.specs.KeyedQuotients.{KeyedQuotient}
 use Rattle.keyed_quotient.specs.Changes.{KeyedChanges}
 use Rattle.ak_family.specs.Families.{IsKeyedFamily}
 use Rattle.ak_family.specs.LevelDrafts.{AreSettled}
-use Rattle.ak_family.proofs.FamilyKept.{settled_family}
+use Rattle.ak_family.proofs.FamilyKept.{settled_family, settled_supported}
 use Rattle.ak_family.proofs.Drafted.{empty_over}
 use Rattle.ak_family.proofs.family.AkFamily.settle.Goals as goal
 
@@ -37,3 +37,10 @@ returns-clause-over c =
     settled_family c.args.self.now c.args.d.now new c.requires.shows settled (subst (λ (f : List KeyedQuotient). 0 < length f) c.self.view_is c.self.invariant.some) in
     let drafts : length c.args.d.now ≡ length c.settle_all.new.drafts.items = sym (ap (λ (d : List KeyedChanges). length d) c.d.view_is) ∙ sym c.settle_all.ensures.count in
     empty_over new c.settle_all.new.drafts.items keyed (settled.count ∙ sym c.requires.shows.over.count ∙ drafts) c.settle_all.ensures.empty
+
+pub returns-clause-supported : goal.returns-clause-supported
+returns-clause-supported c = λ sides keys.
+    let new = c.settle_all.new.levels.items in
+    let settled : AreSettled c.args.self.now c.args.d.now new =
+    subst (λ (f : List KeyedQuotient). AreSettled f c.args.d.now new) c.self.view_is (subst (λ (d : List KeyedChanges). AreSettled c.self.inside.levels.items d new) c.d.view_is c.settle_all.ensures.settled) in
+    settled_supported sides c.args.self.now c.args.d.now new c.requires.shows keys settled

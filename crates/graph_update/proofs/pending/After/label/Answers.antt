@@ -3,8 +3,6 @@ use Rattle.std.specs.Prelude.{IsTrue, is_some, option_map}
 use Rattle.std.specs.Option.{option_or}
 use Rattle.graph_spec.specs.Graphs.{is_live, is_seen, label_of}
 use Rattle.label_graph.specs.GraphViews.{label_number}
-use Rattle.change_spec.specs.Steps.{after}
-use Rattle.graph_steps.specs.StepLists.{steps_of}
 use Rattle.graph_update.specs.PendingChanges.{Pending, graph_after}
 use Rattle.graph_update.proofs.PendingLaws.{new_graph}
 use Rattle.graph_update.proofs.LabelLaws.{number_kept, number_text, number_is, new_labels}
@@ -27,38 +25,34 @@ returns-in-None-clause-number c =
 pub returns-in-None-clause-text : goal.returns-in-None-clause-text
 returns-in-None-clause-text c = number_text (graph_after c.args.self.now) c.args.n c.label.result (returns-in-None-clause-number c)
 
-pub added_number-requires-clause-seen : goal.added_number-requires-clause-seen
-added_number-requires-clause-seen c =
+pub number_of-requires-clause-seen : goal.number_of-requires-clause-seen
+number_of-requires-clause-seen c =
     let p = c.args.self.now in
     let g = c.self.inside.graph.now.graph in
     let n = c.args.n in
     let t = c.in-Some.label.now in
     let named = c.given_label.ensures ∙ ap (λ o. option_or (option_map (λ t. t.now) o) (label_of p.before n)) c.in-Some.is in
-    subst (λ k. is_seen (after k g).seen t ≡ true) (sym c.steps.ensures)
+    subst (λ (q : Pending). is_seen (graph_after q).seen t ≡ true) c.self.view_is
     ((new_graph c.self.inside.change.now g c.self.invariant.new c.self.invariant.sound).labelled n t
     (subst (λ (q : Pending). label_of (graph_after q) n ≡ Some t) (sym c.self.view_is) named))
 
-pub added_number-requires-clause-few : goal.added_number-requires-clause-few
-added_number-requires-clause-few c =
+pub number_of-requires-clause-few : goal.number_of-requires-clause-few
+number_of-requires-clause-few c =
     let g = c.self.inside.graph.now.graph in
     let count = c.len-known.ensures.count in
     let fits = c.len-known.type_inv in
     let seen = ap length c.self.invariant.seen in
     let law = new_labels c.self.inside.change.now g c.self.invariant.new (omega (arith, count, fits, seen)) in
-    let same = ap (λ k. length (after k g).seen) c.steps.ensures in
+    let same = ap (λ (q : Pending). length (graph_after q).seen) c.self.view_is in
     omega (arith, law, same)
 
 pub returns-in-Some-clause-number : goal.returns-in-Some-clause-number
 returns-in-Some-clause-number c =
     let p = c.args.self.now in
-    let g = c.self.inside.graph.now.graph in
     let n = c.args.n in
     let t = c.in-Some.label.now in
     let named = c.given_label.ensures ∙ ap (λ o. option_or (option_map (λ t. t.now) o) (label_of p.before n)) c.in-Some.is in
-    subst (λ (q : Pending). label_number (graph_after q) n ≡ Some c.added_number.result) c.self.view_is
-    (subst (λ k. label_number (after k g) n ≡ Some c.added_number.result) c.steps.ensures
-    (number_is (after (steps_of c.steps.result.now) g) n c.added_number.result t
-    (ap (λ k. label_of (after k g) n) c.steps.ensures ∙ subst (λ (q : Pending). label_of (graph_after q) n ≡ Some t) (sym c.self.view_is) named) c.added_number.ensures))
+    number_is (graph_after p) n c.number_of.result t named c.number_of.ensures
 
 pub returns-in-Some-clause-text : goal.returns-in-Some-clause-text
-returns-in-Some-clause-text c = number_text (graph_after c.args.self.now) c.args.n c.added_number.result (returns-in-Some-clause-number c)
+returns-in-Some-clause-text c = number_text (graph_after c.args.self.now) c.args.n c.number_of.result (returns-in-Some-clause-number c)

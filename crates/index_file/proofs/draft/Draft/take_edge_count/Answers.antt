@@ -1,8 +1,8 @@
-use Rattle.std.proofs.Common.{ap, ◌∙◌}
+use Rattle.std.proofs.Common.{ap, ◌∙◌, arith}
 use Rattle.index_file.specs.declared.due.Due.TheVariants.{Edges}
 use Rattle.index_file.specs.Readings.{Reading}
 use Rattle.index_file.proofs.StepLaws.{wrong_edge_count}
-use Rattle.index_file.proofs.DraftLaws.{edge_count_taken, edge_count_over, draft_edges}
+use Rattle.index_file.proofs.DraftLaws.{edge_count_taken, edge_count_over, draft_edge_count}
 use Rattle.index_file.proofs.draft.Draft.take_edge_count.Goals as goal
 
 pub returns-in_default-clause-wrong : goal.returns-in_default-clause-wrong
@@ -21,4 +21,6 @@ returns-clause-taken c =
     ∙ ap (λ (r : Reading). record r { due = Edges c.in-Some.count }) c.self.view_is)
 
 pub invariant_of-self : goal.invariant_of-self
-invariant_of-self c = draft_edges _ c.self.invariant _ c.self.inside.pairs.items
+invariant_of-self c =
+    let m = c.in-Some-count_within.ensures.found in
+    draft_edge_count _ c.self.invariant _ (ap (λ (r : Reading). r.due) c.self.view_is ∙ c.requires.due) (let e = m.0 in let few = m.2 in omega (arith, e, few))

@@ -1,7 +1,7 @@
 use Rattle.std.proofs.Common.{◌≤◌, [], ◌∷◌, ◌++◌, ◌∙◌, ap, sym, subst}
 use Rattle.index_file.specs.declared.due.Due.TheVariants.{Ranks}
 use Rattle.index_file.specs.Readings.{Reading}
-use Rattle.index_file.specs.Readings.{live_in}
+use Rattle.index_file.specs.Readings.{live_in, can_take_view}
 use Rattle.index_file.proofs.DraftLaws.{view_taken, view_refused, view_wrong, draft_view, same_views}
 use Rattle.index_file.proofs.draft.Draft.take_view.Goals as goal
 
@@ -23,7 +23,9 @@ returns-in-Ok-clause-taken c =
     ∙ ap (λ (r : Reading). record r { due = Ranks (live_in r.allocated) n; views = r.views ++ record { via = c.in-Some.via; ranks = [] } ∷ [] }) c.self.view_is)
 
 pub invariant_of-self : goal.invariant_of-self
-invariant_of-self c = draft_view _ c.self.invariant c.live-ranks.result c.args.count c.in-Some.via _ c.live-ranks.ensures c.in-Ok.ensures.ok
+invariant_of-self c =
+    draft_view _ c.self.invariant c.live-ranks.result c.args.count c.in-Some.via _ (ap (λ (r : Reading). r.due) c.self.view_is ∙ c.requires.due)
+    (ap (λ (r : Reading). can_take_view r c.args.count c.in-Some.via) c.self.view_is ∙ sym c.can_begin.ensures ∙ c.if-not-can_begin.false) c.live-ranks.ensures c.in-Ok.ensures.ok
 
 pub invariant_of-self-in-Err : goal.invariant_of-self-in-Err
 invariant_of-self-in-Err c = same_views _ c.self.invariant _ c.in-Err.ensures.err

@@ -1,4 +1,4 @@
-use Rattle.std.proofs.Common.{ap}
+use Rattle.std.proofs.Common.{ap, ◌∙◌}
 use Rattle.index_file.specs.declared.due.Due.TheVariants.{Ranks}
 use Rattle.index_file.specs.Readings.{Reading}
 use Rattle.index_file.proofs.StepLaws.{wrong_view_count}
@@ -14,4 +14,4 @@ returns-clause-taken c =
     (ap (λ (r : Reading). record r { due = Ranks 0 c.in-Some.count }) c.self.view_is)
 
 pub invariant_of-self : goal.invariant_of-self
-invariant_of-self c = draft_views _ c.self.invariant c.in-Some.count
+invariant_of-self c = draft_views _ c.self.invariant c.in-Some.count (ap (λ (r : Reading). r.due) c.self.view_is ∙ c.requires.due)

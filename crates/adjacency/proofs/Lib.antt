@@ -1,0 +1,4 @@
+mod TargetLaws
+mod FillLaws
+mod StepLaws
+pub mod RowLaws

@@ -1,0 +1,7 @@
+use Rattle.std.proofs.Common.{◌≡◌, ◌++◌, ℕ, Option, filter_map, take}
+use Rattle.bisim_levels.specs.Keys.{Gives}
+use Rattle.bisim_levels.specs.SidedKeys.{marked}
+use Rattle.bisim_levels.proofs.keys.push_marks.Given as goal
+
+abbrev pub invariant-loop-n : goal.invariant-loop-n
+invariant-loop-n g l = (f : ℕ → Option ℕ) → Gives (goal.F-post g l.block_of) f → l.numbers.items ≡ l.initial.numbers.items ++ filter_map (marked l.side f) (take l.n-index l.nodes)

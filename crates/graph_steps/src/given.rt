@@ -1,0 +1,101 @@
+// The labels that nodes have once the first steps of a change are made.
+ghost use Rattle.std.specs.Prelude.{◌≡◌, ◌+◌, ◌<◌, IsTrue, Some, None, length, option_map, if◌then◌else◌};
+ghost use Rattle.std.specs.Option.{option_or};
+ghost use Rattle.graph_spec.specs.Graphs.{Graph as Seen, is_live, label_of};
+ghost use Rattle.change_spec.specs.Steps.{after, is_text};
+ghost use Rattle.change_spec.specs.Places.{CanMakeAll};
+ghost use Rattle.graph_steps.specs.StepLists.{step_of, steps_of};
+ghost use Rattle.graph_steps.specs.NodePlaces.{node_places};
+ghost use Rattle.graph_steps.specs.GivenLabels.{label_added, relabel_by, relabelled};
+
+use crate::changes::Step;
+use crate::fronts::is_same;
+use crate::parts::Front;
+use label_graph::Graph;
+use px_base::{NodeId, Text};
+
+// The label, where it is asked for.
+fn label_if(wanted: bool, label: &Text) -> Option<&Text>
+    ensures { option_map (λ t. t.now) result ≡ (if wanted then Some label.now else None) }
+{
+    if wanted { Some(label) } else { None }
+}
+
+// The label that the step gives a node by its number.
+fn relabel_by(step: &Step, n: NodeId) -> Option<&Text>
+    ensures { option_map (λ t. t.now) result ≡ relabel_by (step_of step.now) n }
+{
+    match step {
+        Step::Relabel(node, label) => label_if(n == *node, label),
+        _ => None,
+    }
+}
+
+// The label that the last of the steps gives a node by its number.
+fn relabelled(steps: &[Step], n: NodeId) -> Option<&Text>
+    ensures { option_map (λ t. t.now) result ≡ relabelled (steps_of steps.now) n }
+{
+    let mut given = None;
+    for i in 0..steps.len() {
+        given = relabel_by(&steps[i], n).or(given);
+    }
+    given
+}
+
+// The label that the step gives the node that it adds.
+fn label_added(step: &Step) -> Option<&Text>
+    ensures { option_map (λ t. t.now) result ≡ label_added (step_of step.now) }
+{
+    match step {
+        Step::Node(label) => Some(label),
+        _ => None,
+    }
+}
+
+// The label that the steps give a node which they add once so many others are added.
+fn added_label<'a>(front: &Front<'a>, earlier: usize, n: NodeId) -> Option<&'a Text>
+    requires { earlier < length (node_places front.now) }
+    ensures { (g : Seen) → CanMakeAll front.now g → IsTrue (is_live (after front.now g) n) → n ≡ length g.allocated + earlier
+        → label_of (after front.now g) n ≡ option_or (option_map (λ t. t.now) result) (label_of g n) }
+{
+    let place = front.node_place(earlier);
+    let label = label_added(front.step(place));
+    relabelled(front.naming(place, n), n).or(label)
+}
+
+/// The label that the first steps give a node which is live behind them, the last one where several do. Expected O(1), and
+/// the steps from the first to the last that names the node are gone through; no memory.
+pub fn given_label<'a>(graph: &Graph, front: &Front<'a>, n: NodeId) -> Option<&'a Text>
+    requires can { CanMakeAll front.now graph.now.graph }
+    requires live { IsTrue (is_live (after front.now graph.now.graph) n) }
+    ensures { label_of (after front.now graph.now.graph) n ≡ option_or (option_map (λ t. t.now) result) (label_of graph.now.graph n) }
+{
+    let created = graph.created();
+    if n < created {
+        return relabelled(front.naming(0, n), n);
+    }
+    added_label(front, (n - created) as usize, n)
+}
+
+// Whether a node has that label in the graph as it is.
+fn label_before(graph: &Graph, u: NodeId, text: &Text) -> bool
+    ensures { result ≡ is_text text.now (label_of graph.now.graph u) }
+{
+    if !graph.is_live(u) {
+        return false;
+    }
+    *text == *graph.labels().text(graph.label(u))
+}
+
+/// Whether a node which is live once the first steps are made has that label then. Expected O(b) for a text of b bytes, and
+/// the steps from the first to the last that names the node are gone through; no memory.
+pub fn has_label(graph: &Graph, front: &Front<'_>, u: NodeId, text: &Text) -> bool
+    requires can { CanMakeAll front.now graph.now.graph }
+    requires live { IsTrue (is_live (after front.now graph.now.graph) u) }
+    ensures { result ≡ is_text text.now (label_of (after front.now graph.now.graph) u) }
+{
+    match given_label(graph, front, u) {
+        Some(label) => is_same(text, label),
+        None => label_before(graph, u, text),
+    }
+}

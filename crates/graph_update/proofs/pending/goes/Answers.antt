@@ -1,7 +1,0 @@
-use Rattle.std.proofs.Common.{◌∙◌}
-use Rattle.graph_steps.specs.StepLists.{steps_of}
-use Rattle.graph_update.proofs.NamedParts.{part_dropped}
-use Rattle.graph_update.proofs.pending.goes.Goals as goal
-
-pub returns : goal.returns
-returns c = c.is_dropped.ensures ∙ part_dropped c.args.change.now (steps_of c.naming.result.now) c.args.n c.naming.ensures

@@ -1,0 +1,12 @@
+use Rattle.std.proofs.Common.{◌∙◌, ap, sym}
+use Rattle.graph_spec.specs.Members.{at}
+use Rattle.label_graph.specs.GraphViews.{label_number}
+use Rattle.index_file.specs.SavedFiles.{graph_of}
+use Rattle.index_file.proofs.SavedViewLaws.{label_told}
+use Rattle.index_file.proofs.read_nodes.ReadNodes.label.Goals as goal
+
+pub returns : goal.returns
+returns c =
+    let s = c.self.inside in
+    rw (← c.self.view_is)
+    (c.label_at.ensures ∙ ap (λ xs. at xs c.args.n) c.deref.ensures.value ∙ label_told s.labels s.numbers.items s.live c.args.n c.self.invariant)

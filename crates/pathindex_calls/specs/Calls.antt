@@ -1,0 +1,139 @@
+-- What a call does to what is held.
+use Rattle.std.specs.Prelude.{ℕ, ◌≡◌, ◌-◌, ◌++◌, List, [], ◌∷◌, Option, Some, None, take, drop, length, min, nat_eq, if◌then◌else◌}
+use Rattle.change_spec.specs.Steps.{Step, node, link, unlink, relabel}
+use Rattle.change_spec.specs.Steps as step
+use Rattle.label_graph.specs.GraphViews.{live_count, edge_count}
+use Rattle.pathindex_session.specs.declared.opening.Indexes.{Indexes}
+use Rattle.pathindex_session.specs.declared.errors.OpenError.{OpenError}
+use Rattle.pathindex_session.specs.Sessions.{SessionOf, graph_of, names_of}
+use Rattle.pathindex_session.specs.Openings.{OpensText, TellsLine}
+use Rattle.pathindex_session.specs.TextAnswers.{SpellsPath, SpellsBranch}
+use Rattle.pathindex_calls.specs.declared.held.Held.{Held}
+use Rattle.pathindex_calls.specs.declared.replies.Reply.{Reply}
+use Rattle.pathindex_calls.specs.declared.requests.Command.{Command}
+use Rattle.pathindex_calls.specs.declared.requests.Command.TheVariants.{Node, Link, Unlink, Drop, Relabel, Begin, End, Cancel, Insert, Delete, Path, Branch, Why, Extents, Sizes, Forget}
+use Rattle.pathindex_calls.specs.declared.requests.Request.{Request}
+use Rattle.pathindex_calls.specs.declared.requests.Request.TheVariants.{Open, Ask}
+use Rattle.pathindex_calls.specs.Requests.{request_at}
+use Rattle.pathindex_calls.specs.Replies.{said, of_open, misused}
+use Rattle.pathindex_calls.specs.Changes.{Inserts, Deletes, ReadsTriple, Steps, Labels, Begins, Ends, Cancels}
+use Rattle.pathindex_calls.specs.Questions.{Asks, Explains, Checks, Lists, Measures, Forgets}
+
+-- A command was carried out, with this text, on a session and the group of steps that is begun.
+abbrev pub Obeys : Command → List ℕ → SessionOf → Option (List Step) → SessionOf → Option (List Step) → Reply → Type 0
+Obeys Node text s g t h reply = Labels (λ label. node label) text s g t h reply
+Obeys (Link u v) text s g t h reply = Steps (link u v) s g t h reply
+Obeys (Unlink u v) text s g t h reply = Steps (unlink u v) s g t h reply
+Obeys (Drop u) text s g t h reply = Steps (step.drop u) s g t h reply
+Obeys (Relabel u) text s g t h reply = Labels (λ label. relabel u label) text s g t h reply
+Obeys Begin text s g t h reply = (t ≡ s) × Begins g h reply
+Obeys End text s g t h reply = Ends s g t h reply
+Obeys Cancel text s g t h reply = (t ≡ s) × Cancels g h reply
+Obeys Insert text s g t h reply = (h ≡ g) × ReadsTriple (λ x. Inserts x) text s t reply
+Obeys Delete text s g t h reply = (h ≡ g) × ReadsTriple (λ x. Deletes x) text s t reply
+Obeys (Path via) text s g t h reply = (h ≡ g) × Asks (SpellsPath text) text via s t reply
+Obeys (Branch via) text s g t h reply = (h ≡ g) × Asks (SpellsBranch text) text via s t reply
+Obeys (Why u) text s g t h reply = (h ≡ g) × Explains text u s t reply
+Obeys (Extents via) text s g t h reply = (h ≡ g) × Lists via s t reply
+Obeys Sizes text s g t h reply = (h ≡ g) × Measures s t reply
+Obeys (Forget kind) text s g t h reply = (h ≡ g) × Forgets kind s t reply
+
+-- A session was opened with the graph of the text, or a line of it is refused, or memory ran out.
+abbrev pub Opens : Indexes → List ℕ → Option SessionOf → Reply → Type 0
+Opens kept text (Some s) reply =
+    OpensText text kept s.engine (names_of s) × (s.nodes ≡ []) × (s.walk ≡ []) × (s.text ≡ []) × (reply ≡ said 0)
+Opens kept text None reply = (error : OpenError) × TellsLine text error × (reply ≡ of_open error)
+
+-- what a call starts from or leaves: perhaps a session, perhaps the steps of a group that is begun
+pub record Kept : Type 0 where
+  pub session : Option SessionOf
+  pub group : Option (List Step)
+
+abbrev pub kept_by : Held → Kept
+kept_by h = record { session = h.session; group = h.group }
+
+-- Something was asked of the session, if one is open.
+abbrev pub AsksSession : Option SessionOf → Command → List ℕ → Option (List Step) → Kept → Reply → Type 0
+AsksSession None command text g k reply = (k ≡ record { session = None; group = g }) × (reply ≡ misused)
+AsksSession (Some s) command text g k reply = (t : SessionOf) × (k.session ≡ Some t) × Obeys command text s g t k.group reply
+
+-- A call that asks for nothing changes nothing.
+abbrev pub Calls : Option Request → List ℕ → Kept → Kept → Reply → Type 0
+Calls None text j k reply = (k ≡ j) × (reply ≡ misused)
+Calls (Some (Open kept)) text j k reply = (k.group ≡ None) × Opens kept text k.session reply
+Calls (Some (Ask command)) text j k reply = AsksSession j.session command text j.group k reply
+
+-- What a call does, by its number, the two numbers and the text that come with it; and it says the code of its reply.
+pub record IsCalled (call a b : ℕ) (text : List ℕ) (h i : Held) (code : ℕ) : Type 0 where
+  pub calls : Calls (request_at call a b) text (kept_by h) (kept_by i) i.reply
+  pub code_is : code ≡ i.reply.code
+
+-- A walk was checked, if a session is open.
+abbrev pub ChecksSession : Option SessionOf → List ℕ → ℕ → List ℕ → Reply → Type 0
+ChecksSession None text v walk reply = reply ≡ misused
+ChecksSession (Some s) text v walk reply = Checks text v walk s reply
+
+-- What the call does that checks a walk; all but the reply stays.
+pub record IsChecked (v : ℕ) (walk text : List ℕ) (h i : Held) (code : ℕ) : Type 0 where
+  pub checks : ChecksSession h.session text v walk i.reply
+  pub kept : kept_by i ≡ kept_by h
+  pub code_is : code ≡ i.reply.code
+
+-- the nodes and edges of the graph, and the number that its next node gets; 0, where no session is open
+abbrev pub nodes_in : Option SessionOf → ℕ
+nodes_in None = 0
+nodes_in (Some s) = live_count (graph_of s)
+
+abbrev pub edges_in : Option SessionOf → ℕ
+edges_in None = 0
+edges_in (Some s) = edge_count (graph_of s)
+
+abbrev pub next_in : Option SessionOf → ℕ
+next_in None = 0
+next_in (Some s) = length (graph_of s).allocated
+
+-- what is told of the last call and of the graph
+abbrev pub told : Held → ℕ → ℕ
+told h which =
+    if nat_eq which 0 then h.reply.how
+    else if nat_eq which 1 then h.reply.count
+    else if nat_eq which 2 then h.reply.number
+    else if nat_eq which 3 then nodes_in h.session
+    else if nat_eq which 4 then edges_in h.session
+    else if nat_eq which 5 then next_in h.session
+    else 0
+
+-- That is told, and all stays.
+pub record IsTold (which : ℕ) (h i : Held) (number : ℕ) : Type 0 where
+  pub told_is : number ≡ told h which
+  pub same : i ≡ h
+
+-- nothing is held: no session is open
+pub record IsEmpty (h : Held) : Type 0 where
+  pub session : h.session ≡ None
+  pub group : h.group ≡ None
+  pub reply : h.reply ≡ said 0
+
+-- what was found last: none of it, where no session is open
+abbrev pub found_nodes : Option SessionOf → List ℕ
+found_nodes None = []
+found_nodes (Some s) = s.nodes
+
+abbrev pub found_walk : Option SessionOf → List ℕ
+found_walk None = []
+found_walk (Some s) = s.walk
+
+abbrev pub found_text : Option SessionOf → List ℕ
+found_text None = []
+found_text (Some s) = s.text
+
+-- a part of the list, from the place `first` on, lies at the front of the new list, as much as there is room for, and what lies
+-- behind it stays
+pub record IsCopied {X : Type 0} (list : List X) (first : ℕ) (old new : List X) (count : ℕ) : Type 0 where
+  pub count_is : count ≡ min (length list - first) (length old)
+  pub new_is : new ≡ take count (drop first list) ++ drop count old
+
+-- What was found last is copied so, and all stays.
+pub record CopiesFound (found : Option SessionOf → List ℕ) (first : ℕ) (h i : Held) (old new : List ℕ) (count : ℕ) : Type 0 where
+  pub copied : IsCopied (found h.session) first old new count
+  pub same : i ≡ h

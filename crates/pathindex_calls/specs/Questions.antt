@@ -1,0 +1,83 @@
+-- What a session answers to a question, as numbers.
+use Rattle.std.specs.Prelude.{ℕ, Bool, false, ◌≡◌, ◌↔◌, List, length, Result, Ok, Err, OnOk, OnErr, ⊤}
+use Rattle.graph_spec.specs.ProgramLimits.{program_limits}
+use Rattle.graph_spec.specs.declared.refusal.Refusal.{Refusal}
+use Rattle.graph_spec.specs.declared.refusal.Refusal.TheVariants.{NoIndex}
+use Rattle.bisim_spec.specs.declared.kind.Kind.{Kind}
+use Rattle.path_query.specs.Parsed.{is_past}
+use Rattle.branch_query.specs.Queries.{Query}
+use Rattle.index_api.specs.declared.kinds.Via.{Via}
+use Rattle.index_api.specs.declared.answers.How.{How}
+use Rattle.index_api.specs.IndexKinds.{is_kept, kinds_of, has_kind}
+use Rattle.px_base.specs.declared.allocation.Memory.{Memory}
+use Rattle.extent_report.specs.PrintedLists.{ListsIndex, ListsSizes}
+use Rattle.pathindex_core.specs.Engines.{kept_in}
+use Rattle.pathindex_core.specs.Calls.{IsForgotten, KeepsAllButViews}
+use Rattle.pathindex_session.specs.declared.errors.QueryError.{QueryError}
+use Rattle.pathindex_session.specs.declared.errors.QueryError.TheVariants.{Refused}
+use Rattle.pathindex_session.specs.Sessions.{SessionOf, engine_in, graph_of, KeepsFound}
+use Rattle.pathindex_session.specs.TextAnswers.{AnswersText, ExplainsText, ChecksText}
+use Rattle.pathindex_calls.specs.declared.replies.Reply.{Reply}
+use Rattle.pathindex_calls.specs.Replies.{of_answer, of_why, of_check, of_list, of_sizes, of_forget}
+
+-- A text was asked, where these are the queries that it spells.
+pub record Asks (spells : Query → Type 0) (asked : List ℕ) (via : Via) (s t : SessionOf) (reply : Reply) : Type 0 where
+  pub answer : Result How QueryError
+  pub reply_is : reply ≡ of_answer answer (length t.nodes)
+  pub answers : AnswersText spells (is_past program_limits asked) s t via answer
+  pub keeps : KeepsAllButViews (engine_in s) (engine_in t)
+  pub names : t.names ≡ s.names
+  pub err : OnErr answer (t.nodes ≡ s.nodes)
+  pub walk : t.walk ≡ s.walk
+  pub text : t.text ≡ s.text
+
+-- It was asked why a node answers.
+pub record Explains (asked : List ℕ) (v : ℕ) (s t : SessionOf) (reply : Reply) : Type 0 where
+  pub answer : Result Bool QueryError
+  pub reply_is : reply ≡ of_why answer (length t.walk)
+  pub explained : ExplainsText asked (is_past program_limits asked) s t v answer
+  pub no_walk : answer ≡ Ok false → t.walk ≡ s.walk
+  pub err : OnErr answer (t.walk ≡ s.walk)
+  pub engine : t.engine ≡ s.engine
+  pub names : t.names ≡ s.names
+  pub nodes : t.nodes ≡ s.nodes
+  pub text : t.text ≡ s.text
+
+-- It was asked whether a list of nodes shows that one answers.
+pub record Checks (asked : List ℕ) (v : ℕ) (walk : List ℕ) (s : SessionOf) (reply : Reply) : Type 0 where
+  pub answer : Result Bool QueryError
+  pub reply_is : reply ≡ of_check answer
+  pub checked : ChecksText asked (is_past program_limits asked) s v walk answer
+
+-- The blocks of an index were listed.
+pub record Lists (via : Via) (s t : SessionOf) (reply : Reply) : Type 0 where
+  pub answer : Result ⊤ QueryError
+  pub reply_is : reply ≡ of_list answer (length t.text)
+  pub listed : OnOk answer (ListsIndex (graph_of s) (kept_in (engine_in s)) via t.text)
+  pub no_index : (answer ≡ Err (Refused NoIndex)) ↔ (is_kept (kept_in (engine_in s)) via ≡ false)
+  pub keeps : KeepsAllButViews (engine_in s) (engine_in t)
+  pub names : t.names ≡ s.names
+  pub err : OnErr answer (t.text ≡ s.text)
+  pub nodes : t.nodes ≡ s.nodes
+  pub walk : t.walk ≡ s.walk
+
+-- The sizes were listed.
+pub record Measures (s t : SessionOf) (reply : Reply) : Type 0 where
+  pub answer : Result ⊤ Memory
+  pub reply_is : reply ≡ of_sizes answer (length t.text)
+  pub measured : OnOk answer (ListsSizes (graph_of s) (kept_in (engine_in s)) t.text)
+  pub keeps : KeepsAllButViews (engine_in s) (engine_in t)
+  pub names : t.names ≡ s.names
+  pub err : OnErr answer (t.text ≡ s.text)
+  pub nodes : t.nodes ≡ s.nodes
+  pub walk : t.walk ≡ s.walk
+
+-- The index of a kind was dropped.
+pub record Forgets (kind : Kind) (s t : SessionOf) (reply : Reply) : Type 0 where
+  pub answer : Result ⊤ Refusal
+  pub reply_is : reply ≡ of_forget answer
+  pub forgotten : IsForgotten kind (engine_in s) (engine_in t)
+  pub no_index : (answer ≡ Err NoIndex) ↔ (has_kind (kinds_of (engine_in s).boxes) kind ≡ false)
+  pub no_other : (r : Refusal) → answer ≡ Err r → r ≡ NoIndex
+  pub names : t.names ≡ s.names
+  pub keeps : KeepsFound s t
