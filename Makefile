@@ -52,7 +52,8 @@ library:
 	@$(NEEDS_RT)
 	@command -v cc >/dev/null || { echo "make library: cc isn't on the path; apt-get install gcc brings it" >&2; exit 1; }
 	@mkdir -p bin
-	cd $(LIBRARY) && rt lib
+	@echo 'Proving and building the library. The first time takes about half an hour on four cores; bin/library.log lists the crates that are proved.'
+	@(cd $(LIBRARY) && rt all check --jobs $(JOBS) && rt lib) >bin/library.log 2>&1 || { status=$$?; cat bin/library.log; exit $$status; }
 	tools/build_library.sh $(LIBRARY)/out/libpathindex_c.a $(HEAP) bin
 	@echo 'bin/libpathindex.a and bin/libpathindex.so are built; include/pathindex.h and python/pathindex.py stand over them.'
 
