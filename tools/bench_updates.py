@@ -1,13 +1,15 @@
 #!/usr/bin/env python3
-"""Has bin/pathindex change generated graphs, and prints what an update takes while only the A(k)-indexes are kept, and while only the
-1-index is, and what one build of that index takes beside it. Then it prints what an update takes while a node with many parents loses some of them one by one, and what the run of a seed
-takes, with its 2,000 changes and 12 queries over all indexes. The gate doesn't run this.
+"""Has bin/pathindex change generated graphs, and prints what an update takes while only the A(k)-indexes are kept, while only the 1-index
+is, and while only the bounded forward and backward indexes are, and what one build takes beside it. Then it prints what an update takes
+while a node with many parents loses some of them one by one, and what the run of a seed takes, with its 2,000 changes and 12 queries over
+all indexes. The gate doesn't run this.
 
     bench_updates.py [PROGRAM [PARENTS]]
 
 PROGRAM is run in place of bin/pathindex. PARENTS says how many parents that node has, 20,000 where it isn't given. The other updates are
 a node, two links from it and an unlink, in turn. Times are processor times, the best of some turns. That of the updates is less that
-of the same run without them, and that of a build less that of a run without the index; of the A(k)-indexes it is A(1) and A(2), since A(0) is kept in each run.
+of the same run without them, and that of a build less that of a run without the index; of the A(k)-indexes it is A(1) and A(2), since
+A(0) is kept in each run, and the bounded ones are built beside these.
 """
 import os
 import pathlib
@@ -34,6 +36,7 @@ LEAST = ["--k", "0", "--without-one", "--without-fb"]
 KEPT = {
     "A(0) to A(2)": (["--k", "2", "--without-one", "--without-fb"], "", "a build of A(1) and A(2)"),
     "1-index": (["--k", "0", "--without-fb"], "forget a\n", "a build"),
+    "B(0) to B(2)": (["--k", "2", "--without-one", "--without-fb", "--with-bk"], "forget a\n", "a build of these, A(1) and A(2)"),
 }
 SEED = "1"
 
