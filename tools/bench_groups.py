@@ -1,11 +1,13 @@
 #!/usr/bin/env python3
 """Has bin/pathindex change generated graphs by groups, and prints what a group takes beside the same changes one by one, and what a
-change at a node with many edges takes beside a first list of them. The gate doesn't run this.
+change at a node with many edges takes beside a build of the same indexes, which reads each edge once for each level. The gate doesn't
+run this.
 
     bench_groups.py [PROGRAM [EDGES]]
 
 PROGRAM is run in place of bin/pathindex. EDGES says how many edges that node has, 200,000 where it isn't given. Times are processor
-times, the best of some turns, and differences of whole processes: of the A(k)-indexes up to A(2) alone, and of the 1-index alone.
+times, the best of some turns, and differences of whole processes: of the A(k)-indexes up to A(2) alone, of the 1-index alone, and of
+the bounded forward and backward indexes.
 """
 import os
 import pathlib
@@ -15,7 +17,7 @@ import sys
 import tempfile
 
 from bench_indexes import best_of
-from bench_updates import KEPT, MAKE, ROOT, hub_graph, node_count, write
+from bench_updates import KEPT, LEAST, MAKE, ROOT, hub_graph, node_count, write
 
 TRIPLES = 20_000
 STEPS = 1_024
@@ -38,16 +40,17 @@ def grouped(lines):
 
 
 def measure(program, folder, graph, scripts, turns, what):
-    """Prints what each script takes beyond the load."""
-    for name, (flags, first, _) in KEPT.items():
-        commands = {"": [program, write(folder, "none", first), "--graph", graph, *flags]}
+    """Prints what each script takes beyond the load, and what a build of these indexes takes, which reads each edge once for each level."""
+    for name, (flags, first, built) in KEPT.items():
+        none = write(folder, "none", first)
+        commands = {"": [program, none, "--graph", graph, *flags], "least": [program, none, "--graph", graph, *LEAST]}
         for script, lines in scripts.items():
             path = write(folder, script.replace(" ", "_"), first + "".join(line + "\n" for line in lines))
             commands[script] = [program, path, "--graph", graph, *flags]
         taken = best_of(commands, turns)
         load = taken[""][0]
         figures = ", ".join(f"{script} {(taken[script][0] - load) * 1e3:,.1f} ms" for script in scripts)
-        print(f"{what}, {name}: {figures}", flush=True)
+        print(f"{what}, {name}: {figures}; {built} {(load - taken['least'][0]) * 1e3:,.1f} ms", flush=True)
 
 
 def measure_groups(program, folder):

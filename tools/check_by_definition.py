@@ -1,14 +1,14 @@
 #!/usr/bin/env python3
 """Compares the program with slow, plain definitions: check_by_definition.py PROGRAM [RUNS [changes | triples]].
 
-Each run makes a small random script of changes, groups of changes, triples that come and go, queries, lists and sizes. Three of four
-begin with a graph file of random triples, whose terms the script spells in other ways too. With the word changes it is of changes alone,
-and after each, from the first node on, the 1-index and all levels, up to level 3 at least, are listed; in some of these runs, and in no
-others, a node gains many neighbours one by one, and loses them one by one or at once, and these begin with the empty graph. With the word
-triples it is of inserts and deletes alone. After the load, and after each of them, all indexes that are kept are listed and counted, and
-the walk of each present triple is checked with its labels. Then the program loads a file of the present triples, in another order, and
-must give the same lists, sizes and walks but for the numbers. Where walks come back to their beginning that leaves out the 1-index, which
-may have more blocks after changes. At the end it is printed how many changes, walks, edits and loads there were.
+Each run makes a small random script of changes, groups of changes, triples that come and go, queries, lists and sizes, which saves a file
+at its end. Three of four begin with a graph file of random triples, whose terms the script spells in other ways too. With the word changes
+it is of changes alone, and after each, from the first node on, all indexes that are kept are listed, up to level 3 at least; in some of
+these runs, and in no others, a node gains many neighbours, one by one and in groups, and loses them so or at once, and these begin with the
+empty graph. With the word triples it is of inserts and deletes alone. After the load, and after each of them, all indexes that are kept are
+listed and counted, and the walk of each present triple is checked with its labels. Then the program loads a file of the present triples, in
+another order, and must give the same lists, sizes and walks but for the numbers. Where walks come back to their beginning that leaves out
+the 1-index, which may have more blocks after changes. At the end it is printed how many changes, walks, edits and loads there were.
 
 What the program writes must be what the definitions below give, which work on pairs of nodes and know neither splitting of blocks nor
 automata nor sets that spread along an axis. Where walks come back to their beginning several partitions of the 1-index are lawful, so of
@@ -637,6 +637,26 @@ def sizes_by_definition(graph, word, i):
     return writes(f"{word} blocks {len(blocks)} edges {pairs_of(graph, blocks)}")
 
 
+def ranks(graph, blocks):
+    """The lines of a view: for each node the rank of its block, by least members."""
+    rank = {n: str(i) for i, block in enumerate(blocks) for n in block}
+    return [rank[n] for n in graph.live()]
+
+
+def saves_graph(graph, k, views):
+    return writes(
+        "pathindex 1", f"given {len(graph.labels)} k {k}", *("gone" if label is None else f"live {label}" for label in graph.labels),
+        f"edges {len(graph.edges)}", *(f"{u} {v}" for u, v in sorted(graph.edges)), f"views {views}")
+
+
+def saves_one(graph):
+    return lambda output: writes("view one", *ranks(graph, output.one))(output)
+
+
+def saves_by_definition(graph, word, i):
+    return writes(f"view {word}", *ranks(graph, classes(graph, related_in(graph, word, i))))
+
+
 class Run:
     """A random script, and a test for what each of its lines writes."""
 
@@ -696,6 +716,8 @@ class Run:
                 kind = self.pick.choice(["a", "one", "fb", "b"])
                 self.say(f"forget {kind}", writes("ok" if kind in self.kept else "refused no-index"))
                 self.kept.discard(kind)
+        if not changes_alone:
+            self.save()
 
     def begin(self):
         """Begins with a graph file."""
@@ -768,13 +790,17 @@ class Run:
         return lists_one(self.graph.copy(), moves)
 
     def list_all(self):
-        """Lists the 1-index and all levels, and in a run of triples all that is kept, beside a load."""
+        """Lists all indexes, and in a run of triples counts them too, beside a load."""
         if self.triples_alone:
             self.compare()
             return
         if "one" in self.kept:
             self.say("extents one", self.list_one())
-        self.list_levels(self.levels("a") + self.levels("b"))
+        self.list_levels(self.determined())
+
+    def determined(self):
+        """The indexes that are kept and that the graph alone determines: the word and the level of each."""
+        return self.levels("a") + self.levels("b") + ([("fb", None)] if "fb" in self.kept else [])
 
     def list_levels(self, levels):
         for word, i in levels:
@@ -789,7 +815,7 @@ class Run:
         if "one" in self.kept and not varies:
             self.say("extents one", self.list_one())
         self.count()
-        self.list_levels(self.levels("a") + self.levels("b") + ([("fb", None)] if "fb" in self.kept else []))
+        self.list_levels(self.determined())
         asks, triples = self.script[line:], sorted(self.present)
         for triple in triples:
             self.say(check_of(self.names, triple), writes("yes"))
@@ -898,22 +924,36 @@ class Run:
         return [self.add(self.pick.choice(LABELS) if self.pick.randrange(2) else f"s{i}") for i in range(self.pick.randint(*SPOKES) // 2)]
 
     def hub(self):
-        """A node gains many parents and children one by one, changes some of them, and loses all in another order or at once."""
+        """A node gains many parents and children, changes some of them, and loses all in another order or at once."""
         front, hub, back = self.spokes(), self.add(self.pick.choice(LABELS)), self.spokes()
         edges = [(n, hub) for n in front] + [(hub, n) for n in back]
         if self.may_have_rings:
             edges += [(v, u) for u, v in edges if self.pick.randrange(4) == 0]
-        self.turn(self.pick.sample(edges, len(edges)))
-        self.turn(self.pick.choices(edges, k=len(edges) // 2))
+        self.turn(self.pick.sample(edges, len(edges)), hub)
+        self.turn(self.pick.choices(edges, k=len(edges) // 2), hub)
         left = [edge for edge in edges if edge in self.graph.edges]
         left = self.pick.sample(left, len(left))
-        ends = [lambda: self.turn(left), lambda: self.change(*[("unlink", *edge) for edge in left], is_group=True), lambda: self.change(("drop", hub))]
+        unlinks = [("unlink", *edge) for edge in left]
+        ends = [
+            lambda: self.turn(left, hub),
+            lambda: self.change(*unlinks, is_group=True),
+            lambda: self.change(("drop", hub)),
+            lambda: self.change(*unlinks[::2], self.a_node(self.graph), ("link", front[0], len(self.graph.labels)), ("drop", hub), is_group=True),
+        ]
         self.pick.choice(ends)()
 
-    def turn(self, edges):
-        """Adds each edge, or takes it where it is there."""
-        for edge in edges:
-            self.change(("unlink" if edge in self.graph.edges else "link", *edge))
+    def turn(self, edges, hub):
+        """Adds each edge, or takes it where it is there, one by one or some in a group, in which the hub may get another label."""
+        while edges:
+            count = self.pick.choice([1, self.pick.randint(2, GROUP)])
+            graph, steps = self.graph.copy(), []
+            for edge in edges[:count]:
+                steps.append(("unlink" if edge in graph.edges else "link", *edge))
+                make(graph, steps[-1])
+            if count > 1 and self.pick.randrange(4) == 0:
+                steps.insert(self.pick.randrange(len(steps) + 1), ("relabel", hub, self.pick.choice(LABELS)))
+            self.change(*steps, is_group=count > 1)
+            edges = edges[count:]
 
     def index(self):
         """The word of an index, and its level where it has one; the index may not be kept."""
@@ -1011,6 +1051,16 @@ class Run:
         tests += [sizes_by_definition(graph, "fb", None)] if "fb" in self.kept else []
         tests += [sizes_by_definition(graph, *level) for level in self.levels("b")]
         self.say("sizes", *tests)
+
+    def save(self):
+        if "one" in self.kept:
+            self.say("extents one", self.list_one())
+        graph = self.graph.copy()
+        views = [saves_by_definition(graph, *level) for level in self.levels("a")]
+        views += [saves_one(graph)] if "one" in self.kept else []
+        views += [saves_by_definition(graph, "fb", None)] if "fb" in self.kept else []
+        views += [saves_by_definition(graph, *level) for level in self.levels("b")]
+        self.say("save", saves_graph(graph, self.k, len(views)), *views)
 
     def fault(self, written, status):
         """What is wrong with the output, None where nothing is."""

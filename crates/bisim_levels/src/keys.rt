@@ -115,7 +115,8 @@ fn push_marks<F: Fn(NodeId) -> Option<u32>>(
     block_of: F,
 ) -> Result<(), Memory>
     requires { F.IsAlwaysCallable block_of }
-    ensures { OnOk result ((f : ℕ → Option ℕ) → Gives (F.post block_of) f → numbers.new.items ≡ numbers.old.items ++ filter_map (marked side f) nodes.now) }
+    ensures { OnOk result ((f : ℕ → Option ℕ) → Gives (F.post block_of) f
+        → numbers.new.items ≡ numbers.old.items ++ filter_map (marked side f) nodes.now) }
 {
     for n in nodes {
         push_mark(numbers, side, block_of(*n))?;
@@ -132,7 +133,8 @@ pub(crate) fn write_both_key<F: Fn(NodeId) -> Option<u32>>(
     block_of: F,
 ) -> Result<(), Memory>
     requires { F.IsAlwaysCallable block_of }
-    ensures { OnOk result ((f : ℕ → Option ℕ) → Gives (F.post block_of) f → IsWrittenBy sided.Both f (on_side parents.now children.now) number key.new.items) }
+    ensures { OnOk result ((f : ℕ → Option ℕ) → Gives (F.post block_of) f
+        → IsWrittenBy sided.Both f (on_side parents.now children.now) number key.new.items) }
 {
     key.clear();
     push_marks(key, Side::Parents, parents, &block_of)?;
@@ -156,7 +158,8 @@ pub fn write_sided_key<F: Fn(NodeId) -> Option<u32>>(
     block_of: F,
 ) -> Result<(), Memory>
     requires { F.IsAlwaysCallable block_of }
-    ensures { OnOk result ((f : ℕ → Option ℕ) → Gives (F.post block_of) f → IsWrittenBy sides f (on_side parents.now children.now) number key.new.items) }
+    ensures { OnOk result ((f : ℕ → Option ℕ) → Gives (F.post block_of) f
+        → IsWrittenBy sides f (on_side parents.now children.now) number key.new.items) }
 {
     match sides {
         Sides::Parents => write_key(key, parents, number, block_of),

@@ -55,7 +55,8 @@ fn step_depth(step: &Step) -> Option<u32>
 /// The depth of a hop, and of what follows it from its end on.
 #[cycle(looks)]
 fn hop_depth(hop: &Hop, behind: Option<u32>) -> Option<u32>
-    ensures { (x : Option ℕ) → IsCappedDepth x behind → IsCappedDepth (further (axis_of hop.now.axis) (greater (step_depth (step_of hop.now.step)) x)) result }
+    ensures { (x : Option ℕ) → IsCappedDepth x behind
+        → IsCappedDepth (further (axis_of hop.now.axis) (greater (step_depth (step_of hop.now.step)) x)) result }
 {
     let depth = greater_of(step_depth(&hop.step), behind);
     further(hop.axis, depth)
@@ -108,7 +109,8 @@ fn or_depth(or: &Or) -> Option<u32>
 
 /// The depth where one more hop leads on from where the steps before, which look so far, have led.
 fn led_on(before: Option<u32>, hop: &Hop) -> Option<u32>
-    ensures { (x : Option ℕ) → IsCappedDepth x before → IsCappedDepth (greater (further (axis_of hop.now.axis) x) (step_depth (step_of hop.now.step))) result }
+    ensures { (x : Option ℕ) → IsCappedDepth x before
+        → IsCappedDepth (greater (further (axis_of hop.now.axis) x) (step_depth (step_of hop.now.step))) result }
 {
     let off = further(hop.axis, before);
     greater_of(off, step_depth(&hop.step))

@@ -83,29 +83,16 @@ exchanged (suc n) a b = (let r = exchanged n a b in let e = bits (a n) (b n) in 
     bits false true = refl
     bits false false = refl
 
-pub parted : (n : ℕ) (a b : ℕ → Bool) → count_below n a ≡ count_below n (λ k. b k && a k) + count_below n (λ k. a k && not (b k))
-parted zero a b = refl
-parted (suc n) a b = (let r = parted n a b in let e = bits (a n) (b n) in omega (arith, r, e))
-  where
-    bits : (x y : Bool) → bit_of x ≡ bit_of (y && x) + bit_of (x && not y)
-    bits true true = refl
-    bits true false = refl
-    bits false true = refl
-    bits false false = refl
-
 -- The neighbours before are a, those after are b, and those that come with links are among b. What was there and isn't is lost; what is there and wasn't
--- is the number of those that come, less those that were there.
+-- are those that come and weren't there.
 pub shown_cost : (n : ℕ) (a b new : ℕ → Bool) (before after come : List ℕ) → Lists a before → Lists b after → Lists new come
     → ((k : ℕ) → a k ≡ true → k < n) → ((k : ℕ) → b k ≡ true → k < n) → ((k : ℕ) → new k ≡ true → k < n)
     → ((k : ℕ) → (new k && not (a k)) ≡ (b k && not (a k)))
-    → length before + (length come - tally new before) ≡ length after + count_below n (λ k. a k && not (b k))
+    → length before + tally (λ k. not (a k)) come ≡ length after + count_below n (λ k. a k && not (b k))
 shown_cost n a b new before after come la lb lc ha hb hc same =
     let x = length_below n a before la ha in
     let y = length_below n b after lb hb in
-    let z = length_below n new come lc hc in
-    let t = tally_below n new before la.once (λ k e. ha k (sym (la.members k) ∙ e)) in
-    let t2 = count_same n (λ k. has before k && new k) (λ k. a k && new k) (λ k i. ap (λ c. c && new k) (la.members k)) in
-    let p = parted n new a in
-    let s = count_same n (λ k. new k && not (a k)) (λ k. b k && not (a k)) (λ k i. same k) in
+    let t = tally_below n (λ k. not (a k)) come lc.once (λ k e. hc k (sym (lc.members k) ∙ e)) in
+    let s = count_same n (λ k. has come k && not (a k)) (λ k. b k && not (a k)) (λ k i. ap (λ c. c && not (a k)) (lc.members k) ∙ same k) in
     let e = exchanged n a b in
-    omega (arith, x, y, z, t, t2, p, s, e)
+    omega (arith, x, y, t, s, e)

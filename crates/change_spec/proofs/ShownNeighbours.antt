@@ -47,7 +47,7 @@ settles (unlink u v) p n a b h = ap (λ x. not x && a) h ∙ sym (ap (λ x. not 
 settles (drop u) p n a b h = ap (λ x. a && not x) h ∙ and-false a ∙ sym (ap (λ x. b && not x) h ∙ and-false b)
 settles (relabel u t) p n a b h = absurd (true≢false (sym h))
 
-settled : (c : List Step) (p n : ℕ) (a b : Bool) → concerned c p n ≡ true → edge_after c p n a ≡ edge_after c p n b
+pub settled : (c : List Step) (p n : ℕ) (a b : Bool) → concerned c p n ≡ true → edge_after c p n a ≡ edge_after c p n b
 settled [] p n a b h = absurd (true≢false (sym h))
 settled (s ∷ ss) p n a b h = elim (cases_Bool (concerns p n s)) [
   | inl on ↦ ap (edge_after ss p n) (settles s p n a b on)

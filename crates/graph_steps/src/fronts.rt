@@ -70,8 +70,8 @@ fn edge_by(step: &Step, u: NodeId, v: NodeId, present: bool) -> bool
     }
 }
 
-/// Whether an edge is there behind steps, where it was or wasn't in front of them. O(s) for s steps, no memory.
-pub fn edge_behind(steps: &[Step], u: NodeId, v: NodeId, present: bool) -> bool
+// Whether an edge is there behind steps, where it was or wasn't in front of them.
+fn edge_behind(steps: &[Step], u: NodeId, v: NodeId, present: bool) -> bool
     ensures { result ≡ edge_after (steps_of steps.now) u v present }
 {
     let mut there = present;
@@ -115,13 +115,19 @@ pub fn edge_before(graph: &Graph, from: NodeId, to: NodeId) -> bool
 }
 
 /// Whether an edge is present once the first steps are made, none of which takes an end of it away. It takes what
-/// `edge_after` takes, and O(min(c, p)) in a graph where the one node has c children and the other p parents; no memory.
+/// `edge_after` takes, and where these steps leave the edge as it was, O(min(c, p)) in a graph where the one node has c
+/// children and the other p parents; no memory.
 pub fn has_edge(graph: &Graph, front: &Front<'_>, u: NodeId, v: NodeId) -> bool
     requires from { is_dropped front.now u ≡ false }
     requires onto { is_dropped front.now v ≡ false }
     ensures { result ≡ has_edge (after front.now graph.now.graph) u v }
 {
-    edge_after(front, u, v, edge_before(graph, u, v))
+    let comes = edge_after(front, u, v, false);
+    let stays = edge_after(front, u, v, true);
+    if comes == stays {
+        return comes;
+    }
+    edge_before(graph, u, v)
 }
 
 /// Whether the texts are the same.

@@ -13,7 +13,7 @@ mod tests;
 
 pub use changes::{Change, Span, Step, Verdict};
 pub use degrees::{edges_at, is_dropped};
-pub use fronts::{edge_after, edge_before, edge_behind, has_edge, is_seen};
+pub use fronts::{edge_after, edge_before, has_edge, is_seen};
 pub use given::{given_label, has_label};
 pub use judging::judge;
 pub use parts::Front;

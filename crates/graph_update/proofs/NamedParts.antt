@@ -1,6 +1,6 @@
 -- What steps do at a node, by those of them that name a node, instead of all steps.
 use Rattle.std.proofs.Common.{◌≡◌, ℕ, zero, suc, ◌+◌, ◌<◌, ◌≤◌, false, List, [], ◌∷◌, ◌++◌, length, take, drop, refl, sym, ap, ◌∙◌, arith, inl, inr, nat_eq}
-use Rattle.std.specs.Prelude.{◌||◌, is_some, Option, None, Some, if◌then◌else◌}
+use Rattle.std.specs.Prelude.{◌||◌, Option, None, Some, if◌then◌else◌}
 use Rattle.std.proofs.Math.Bool.{or-false}
 use Rattle.std.proofs.lemmas.List.Folds.{list_any-append}
 use Rattle.std.proofs.lemmas.Bool.{cases_Bool, or_parts}
@@ -8,11 +8,11 @@ use Rattle.bisim_spec.specs.declared.sides.Side.{Side}
 use Rattle.bisim_spec.specs.declared.sides.Side.TheVariants.{Parents, Children}
 use Rattle.change_spec.specs.Steps.{Step, node, link, unlink, drop as drop_step, relabel}
 use Rattle.change_spec.specs.Named.{names, takes_away, is_named, is_dropped}
-use Rattle.change_spec.specs.Shown.{concerns, concerned, edge_after}
+use Rattle.change_spec.specs.Shown.{concerns, concerned}
 use Rattle.graph_steps.specs.NamedSteps.{AreNaming}
-use Rattle.graph_steps.proofs.NamedParts.{none_further, unnamed_further, stays_parts, edge_within}
+use Rattle.graph_steps.proofs.NamedParts.{none_further, unnamed_further, stays_parts}
 use Rattle.graph_update.specs.NamedSteps.{AreLeft}
-use Rattle.graph_update.specs.ShownNeighbours.{concerned_at, linked_at, unless_later, with_first, new_at, comes_at}
+use Rattle.graph_update.specs.ShownNeighbours.{concerned_at, linked_at, unless_later, with_first, new_at}
 use Rattle.graph_update.proofs.ShownLaws.{unnamed_at, unnamed_new}
 
 -- ---- parts behind a place
@@ -37,14 +37,6 @@ part_concerned side c part n m p stays =
     let ends = unconcerned_ends side c part n m p stays in
     sym (ap (λ k. concerned_at side k n m) p.whole ∙ joined_at side p.before (part ++ p.behind) n m ∙ ap (λ b. b || concerned_at side (part ++ p.behind) n m) ends.0
     ∙ joined_at side part p.behind n m ∙ ap (λ b. concerned_at side part n m || b) ends.1 ∙ or-false (concerned_at side part n m))
-
-pub part_brings : (side : Side) (c part : List Step) (n m : ℕ) → AreNaming m c part → is_dropped c n ≡ false → comes_at side part n m ≡ comes_at side c n m
-part_brings Parents c part n m p stays =
-    let ends = unconcerned_ends Parents c part n m p stays in
-    edge_within p.before part p.behind m n false ends.0 ends.1 ∙ ap (λ k. edge_after k m n false) (sym p.whole)
-part_brings Children c part n m p stays =
-    let ends = unconcerned_ends Children c part n m p stays in
-    edge_within p.before part p.behind n m false ends.0 ends.1 ∙ ap (λ k. edge_after k n m false) (sym p.whole)
 
 -- ---- neighbours that come
 
@@ -79,10 +71,6 @@ comes_there side c n i next s found result is at_next links free =
     ap (λ k. new_at side k n) (is ∙ ap (λ k. s ∷ drop k c) (sym at_next)) ∙ step_comes side s (drop next c) n
     ∙ ap (λ o. with_first (unless_later side (drop next c) n o) (new_at side (drop next c) n)) links
     ∙ ap (λ o. with_first o (new_at side (drop next c) n)) (sym free)
-
-pub first_counted : (o : Option ℕ) (ms : List ℕ) → length (with_first o ms) ≡ (if is_some o then 1 else 0) + length ms
-first_counted None ms = omega arith
-first_counted (Some m) ms = omega arith
 
 no_link : (side : Side) (s : Step) (n : ℕ) → names n s ≡ false → linked_at side s n ≡ None
 no_link side (node t) n h = refl

@@ -1,6 +1,6 @@
 -- The neighbours that are shown on one side of a node, and what it costs to read them.
 use Rattle.std.proofs.Common.{◌≡◌, ℕ, zero, suc, nat_eq, ◌+◌, ◌-◌, ◌<◌, ◌≤◌, Bool, true, false, List, [], ◌∷◌, ◌++◌, length, take, get_or, refl, sym, ap, ◌∙◌, arith, inl, inr, true≢false}
-use Rattle.std.specs.Prelude.{◌&&◌, ◌||◌, not, if◌then◌else◌}
+use Rattle.std.specs.Prelude.{◌&&◌, ◌||◌, not, Option, None, Some, if◌then◌else◌}
 use Rattle.std.specs.List.{IsDistinct}
 use Rattle.std.specs.FinSet as set
 use Rattle.std.proofs.Math.Bool.{or-true}
@@ -20,7 +20,7 @@ use Rattle.change_spec.proofs.ShownNeighbours.{unconcerned, edge_all, edge_parts
 use Rattle.change_spec.proofs.ShownCounts.{shown_cost}
 use Rattle.change_spec.proofs.StepPlaces.{live_given}
 use Rattle.graph_update.specs.PendingChanges.{lost_at}
-use Rattle.graph_update.specs.ShownNeighbours.{joins, shown_at, new_at, comes_at, concerned_at}
+use Rattle.graph_update.specs.ShownNeighbours.{joins, shown_at, new_at, comes_at, concerned_at, with_first, is_fresh}
 
 pub shown_list : (side : Side) (c : List Step) (g : Graph) (n : ℕ) (items : List ℕ) → Lists (joins side g n) items → Lists (joins side (after c g) n) (shown_at side c n items)
 shown_list Parents c g n items l = shown_parents_list c g n items l
@@ -59,33 +59,25 @@ pub unnamed_at : (side : Side) (c : List Step) (n m : ℕ) → is_named c m ≡ 
 unnamed_at Parents c n m h k = unnamed_parent c m n h k
 unnamed_at Children c n m h k = unnamed_child c n m h k
 
-pub unnamed_brings : (side : Side) (c : List Step) (n m : ℕ) → is_named c m ≡ false → is_dropped c n ≡ false → comes_at side c n m ≡ false
-unnamed_brings Parents c n m h k = unconcerned c m n false (unnamed_parent c m n h k)
-unnamed_brings Children c n m h k = unconcerned c n m false (unnamed_child c n m h k)
-
 -- no neighbours come to such a node
 pub unnamed_new : (side : Side) (c : List Step) (n : ℕ) → is_named c n ≡ false → new_at side c n ≡ []
 unnamed_new Parents c n h = (unnamed_bare c n h).0
 unnamed_new Children c n h = (unnamed_bare c n h).1
 
--- ---- one more step, and one more neighbour
+-- ---- one more step
 
-abbrev pub one_for : Bool → ℕ
-one_for b = if b then 1 else 0
+-- one neighbour that may come, in front of others
+pub first_fresh : (p : ℕ → Bool) (o : Option ℕ) (ms : List ℕ) → tally p (with_first o ms) ≡ tally p (with_first o []) + tally p ms
+first_fresh p None ms = omega arith
+first_fresh p (Some m) ms = omega arith
 
-pub one_most : (b : Bool) → one_for b ≤ 1
-one_most true = omega arith
-one_most false = omega arith
-
-tally_joined : (p : ℕ → Bool) (xs ys : List ℕ) → tally p (xs ++ ys) ≡ tally p xs + tally p ys
-tally_joined p [] ys = omega arith
-tally_joined p (x ∷ xs) ys = (let r = tally_joined p xs ys in omega (arith, r))
-
-pub tally_more : (p : ℕ → Bool) (xs : List ℕ) (i d : ℕ) → i < length xs → tally p (take (i + 1) xs) ≡ tally p (take i xs) + one_for (p (get_or xs i d))
-tally_more p xs i d h =
-    let e = ap (tally p) (take_more xs i d h) in
-    let r = tally_joined p (take i xs) (get_or xs i d ∷ []) in
-    omega (arith, e, r)
+pub fresh_few : (p : ℕ → Bool) (o : Option ℕ) → tally p (with_first o []) ≤ 1
+fresh_few p None = omega arith
+fresh_few p (Some m) = (let few = one_most (p m) in omega (arith, few))
+  where
+    one_most : (b : Bool) → (if b then 1 else 0) ≤ 1
+    one_most true = omega arith
+    one_most false = omega arith
 
 -- ---- a node that no step names, where none is dropped
 
@@ -173,7 +165,7 @@ lost_past Children c g n s = count_past (length (after c g).allocated) (length g
 side_cost : (side : Side) (c : List Step) (g : Graph) (n : ℕ) (items shown come : List ℕ) (new : ℕ → Bool) → IsGraph g → IsGraph (after c g)
     → Lists (joins side g n) items → Lists (joins side (after c g) n) shown → Lists new come → ((k : ℕ) → new k ≡ true → joins side (after c g) n k ≡ true)
     → ((k : ℕ) → (new k && not (joins side g n k)) ≡ (joins side (after c g) n k && not (joins side g n k)))
-    → length items + (length come - tally new items) ≡ length shown + lost_at side (record { before = g; change = c }) n
+    → length items + tally (is_fresh side g n) come ≡ length shown + lost_at side (record { before = g; change = c }) n
 side_cost side c g n items shown come new s s2 li ls lc within same =
     let more = given_all c g in
     let law = shown_cost (length (after c g).allocated) (joins side g n) (joins side (after c g) n) new items shown come li ls lc
@@ -182,7 +174,7 @@ side_cost side c g n items shown come new s s2 li ls lc within same =
     omega (arith, law, lost)
 
 pub shown_paid : (side : Side) (c : List Step) (g : Graph) (n : ℕ) (items : List ℕ) → IsGraph g → IsGraph (after c g) → Lists (joins side g n) items
-    → length items + (length (new_at side c n) - tally (comes_at side c n) items) ≡ length (shown_at side c n items) + lost_at side (record { before = g; change = c }) n
+    → length items + tally (is_fresh side g n) (new_at side c n) ≡ length (shown_at side c n items) + lost_at side (record { before = g; change = c }) n
 shown_paid side c g n items s s2 l =
     side_cost side c g n items (shown_at side c n items) (new_at side c n) (comes_at side c n) s s2 l (shown_list side c g n items l) (new_list side c n)
     (comes_joins side c g n) (fresh_same side c g n)
@@ -191,7 +183,7 @@ pub bare_paid : (side : Side) (c : List Step) (g : Graph) (n : ℕ) (items : Lis
     → Lists (joins side g n) items → Lists (joins side (after c g) n) items → length items ≡ length items + lost_at side (record { before = g; change = c }) n
 bare_paid side c g n items h s s2 l l2 =
     let law = side_cost side c g n items items (new_at side c n) (comes_at side c n) s s2 l l2 (new_list side c n) (comes_joins side c g n) (fresh_same side c g n) in
-    let none = ap length (unnamed_new side c n h) in
+    let none = ap (tally (is_fresh side g n)) (unnamed_new side c n h) in
     omega (arith, law, none)
 
 pub dead_paid : (side : Side) (c : List Step) (g : Graph) (n : ℕ) (items : List ℕ) → is_live (after c g) n ≡ false → IsGraph g → IsGraph (after c g) → Lists (joins side g n) items

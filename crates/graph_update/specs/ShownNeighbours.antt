@@ -51,6 +51,10 @@ abbrev pub comes_at : Side → List Step → ℕ → ℕ → Bool
 comes_at Parents c n m = edge_after c m n false
 comes_at Children c n m = edge_after c n m false
 
+-- whether n hasn't that neighbour
+abbrev pub is_fresh : Side → Graph → ℕ → ℕ → Bool
+is_fresh side g n m = not (joins side g n m)
+
 -- of these neighbours those that no step concerns
 abbrev pub kept_at : Side → List Step → ℕ → List ℕ → List ℕ
 kept_at side c n items = filter (λ m. not (concerned_at side c n m)) items

@@ -1,5 +1,5 @@
 // The neighbours of a node in a graph that is shown.
-ghost use Rattle.std.specs.Prelude.{◌≡◌, ◌<◌, ◌≤◌, ◌||◌, ◌&&◌, ◌∷◌, ◌+◌, ◌-◌, nat_eq, [], IfSome, IfNone, Some, None, Option, false, length, drop, if◌then◌else◌};
+ghost use Rattle.std.specs.Prelude.{◌≡◌, ◌<◌, ◌≤◌, ◌||◌, ◌&&◌, ◌∷◌, ◌+◌, nat_eq, [], IfSome, IfNone, Some, None, Option, false, length, drop, if◌then◌else◌};
 ghost use Rattle.std.specs.List.{list_any};
 ghost use Rattle.change_spec.specs.Shown.{concerns as concerning, concerned as concerned_by};
 ghost use Rattle.change_spec.specs.Named.{is_dropped};
@@ -7,10 +7,11 @@ ghost use Rattle.change_spec.specs.Counts.{tally};
 ghost use Rattle.graph_steps.specs.StepLists.{step_of, steps_of};
 ghost use Rattle.graph_steps.specs.NamedSteps.{AreNaming};
 ghost use Rattle.graph_update.specs.NamedSteps.{AreLeft};
-ghost use Rattle.graph_update.specs.ShownNeighbours.{concerned_at as concerned_on, other_end, linked_at, unless_later, with_first, new_at, kept_at, shown_at, comes_at, IsFirstKept, IsFirstAdded, AreShown};
+ghost use Rattle.graph_update.specs.ShownNeighbours.{concerned_at as concerned_on, other_end, linked_at, unless_later, with_first, new_at, kept_at, shown_at, is_fresh, IsFirstKept, IsFirstAdded, AreShown};
 
 use bisim_spec::Side;
-use graph_steps::{Change, Step, edge_behind};
+use graph_steps::{Change, Step, edge_before};
+use label_graph::Graph;
 use px_base::NodeId;
 use std::marker::Model;
 
@@ -200,22 +201,14 @@ fn first_added(
     None
 }
 
-// Whether an edge that joins a node to its neighbour, and isn't there before, comes with the steps.
-fn brought_at(steps: &[Step], side: Side, n: NodeId, m: NodeId) -> bool
-    ensures { result ≡ comes_at side (steps_of steps.now) n m }
+// Whether the graph has no edge that joins a node to its neighbour.
+fn is_fresh(graph: &Graph, side: Side, n: NodeId, m: NodeId) -> bool
+    ensures { result ≡ is_fresh side graph.now.graph n m }
 {
     match side {
-        Side::Parents => edge_behind(steps, m, n, false),
-        Side::Children => edge_behind(steps, n, m, false),
+        Side::Parents => !edge_before(graph, m, n),
+        Side::Children => !edge_before(graph, n, m),
     }
-}
-
-// The same of a node that stays, where the steps name the neighbour.
-fn is_brought(change: &Change, side: Side, n: NodeId, m: NodeId) -> bool
-    requires { is_dropped change.now n ≡ false }
-    ensures { result ≡ comes_at side change.now n m }
-{
-    brought_at(naming(change, 0, m), side, n, m)
 }
 
 fn one_if(b: bool) -> usize
@@ -224,41 +217,28 @@ fn one_if(b: bool) -> usize
     if b { 1 } else { 0 }
 }
 
-// How many of the neighbours that were there come with steps too.
-fn count_back(items: &[NodeId], change: &Change, side: Side, n: NodeId) -> usize
-    requires { is_dropped change.now n ≡ false }
-    ensures { result ≡ tally (comes_at side change.now n) items.now }
+// 1 if there is a neighbour that the node hasn't yet, else 0.
+fn count_fresh(graph: &Graph, side: Side, n: NodeId, m: Option<NodeId>) -> usize
+    ensures { result ≡ tally (is_fresh side graph.now.graph n) (with_first m []) }
 {
-    let mut count = 0;
-    for i in 0..items.len() {
-        count += one_if(is_brought(change, side, n, items[i]));
+    match m {
+        Some(m) => one_if(is_fresh(graph, side, n, m)),
+        None => 0,
     }
-    count
 }
 
-// How many neighbours come with the steps.
-fn count_new(change: &Change, side: Side, n: NodeId) -> usize
+/// How many of the neighbours that come with the steps a node hasn't yet. It takes O(min(c, p)) for each link at the node,
+/// where its one end has c children and the other p parents.
+pub(crate) fn fresh_count(graph: &Graph, change: &Change, side: Side, n: NodeId) -> usize
     requires { is_dropped change.now n ≡ false }
-    ensures { result ≡ length (new_at side change.now n) }
+    ensures { result ≡ tally (is_fresh side graph.now.graph n) (new_at side change.now n) }
 {
     let span = change.span(n);
     let mut count = 0;
     for i in span.first..span.past {
-        count += one_if(linked(change, i, i + 1, side, n).is_some());
+        count += count_fresh(graph, side, n, linked(change, i, i + 1, side, n));
     }
     count
-}
-
-/// How many of the neighbours that a node will have it hasn't yet, where it has these.
-pub(crate) fn fresh_count(items: &[NodeId], change: &Change, side: Side, n: NodeId) -> usize
-    requires { is_dropped change.now n ≡ false }
-    ensures { result ≡ length (new_at side change.now n) - tally (comes_at side change.now n) items.now }
-{
-    let new = count_new(change, side, n);
-    if new == 0 {
-        return 0;
-    }
-    new.saturating_sub(count_back(items, change, side, n))
 }
 
 /// The neighbours of a node, each once, in no stated order; seen as the list of those that are left. They are read from

@@ -217,7 +217,7 @@ impl<'a> After<'a> {
         if self.is_dropped(n) {
             return Neighbours::of(&[], self.change);
         }
-        steps.tick_by(fresh_count(items, self.change, side, n));
+        steps.tick_by(fresh_count(self.graph, self.change, side, n));
         Neighbours::shown(items, self.change, side, n)
     }
 
