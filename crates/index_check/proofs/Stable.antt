@@ -1,15 +1,13 @@
 -- A partition is stable where its labels and its refinement follow from it.
 use Rattle.std.proofs.Common.{◌≡◌, ℕ, List, [], ◌∷◌, Option, Some, Bool, refl, sym, ◌∙◌, ap, None}
 use Rattle.std.specs.Prelude.{option_map}
-use Rattle.graph_spec.specs.Shapes.{Shape, IsParent, IsShape}
+use Rattle.graph_spec.specs.Shapes.{Shape}
 use Rattle.graph_spec.specs.Members.{at}
-use Rattle.bisim_spec.specs.Bisimilarity.{Covers, Matched}
-use Rattle.bisim_spec.specs.Partitions.{Together, IsPartition}
-use Rattle.bisim_spec.specs.Stability.{Stable}
+use Rattle.bisim_spec.specs.Partitions.{IsPartition}
+use Rattle.bisim_spec.specs.Stability.{Stable, StableBoth}
 use Rattle.bisim_spec.proofs.Bisimilar.{some_of, is_some_at}
 use Rattle.bisim_spec.proofs.Stable.{stable_label, stable_parents}
-use Rattle.bisim_spec.proofs.Together.{together_sym}
-use Rattle.bisim_spec.specs.declared.sides.Side.TheVariants.{Parents}
+use Rattle.bisim_spec.specs.declared.sides.Side.TheVariants.{Parents, Children}
 use Rattle.index_check.specs.NeighbourSides.{is_neighbour}
 use Rattle.index_check.specs.NumberedShapes.{shape_by_number}
 use Rattle.index_check.specs.Refinement.{Refines}
@@ -50,5 +48,22 @@ stays_where size label edge block next r st = λ u v b e f.
         there = stable_parents s block st u v (b, e, f);
         back = stable_parents s block st v u (b, f, e);
       };
+    }) in
+    t.1 ∙ sym t.2
+
+-- and so by children
+pub stable_both_where : (s : Shape) (block next : List (Option ℕ)) → Stable s block → Refines (at block) block (is_neighbour Children s.edge) next → Determines block next → StableBoth s block
+stable_both_where s block next st r stays = record {
+  stable = st;
+  children = λ u v t.
+      let b = some_of (at next u) (r.kept u (is_some_at (at block u) t.0 t.1)) in
+      (r.parted u v (b.0, b.1, sym (stays u v t.0 t.1 t.2) ∙ b.1)).neighbours.there;
+}
+
+pub stays_both_where : (s : Shape) (block next : List (Option ℕ)) → Refines (at block) block (is_neighbour Children s.edge) next → StableBoth s block → Determines block next
+stays_both_where s block next r st = λ u v b e f.
+    let t = r.grouped u v (record {
+      one_number = (b, e, f);
+      neighbours = record { there = st.children u v (b, e, f); back = st.children v u (b, f, e) };
     }) in
     t.1 ∙ sym t.2

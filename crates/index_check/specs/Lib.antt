@@ -5,3 +5,4 @@ pub mod NumberedShapes
 pub mod ComparedLists
 pub mod OuterParents
 pub mod BlockMerges
+pub mod Waiting

@@ -11,6 +11,8 @@ ghost use Rattle.index_check.specs.NumberedShapes.{digraph_shape};
 use crate::comparing::{are_same, determines};
 use crate::levels::label_list;
 use crate::refining::refine;
+use crate::stability::is_stable_both;
+use crate::waiting::part_waiting;
 use bisim_spec::Side;
 use label_graph::Digraph;
 use px_base::Memory;
@@ -88,20 +90,22 @@ fn settled<G: Digraph>(alloc: Global, g: &G) -> Result<Vec<Option<u32>>, Memory>
     Ok(block)
 }
 
-// Whether the partition into bisimilar nodes could be this one: a round by neighbours on both sides parts no block.
-fn stays<G: Digraph>(alloc: Global, g: &G, block: &[Option<u32>]) -> Result<bool, Memory>
+// Whether the blocks are the classes of nodes that are fully bisimilar by parents and children, by all levels.
+fn fits_settled<G: Digraph>(alloc: Global, g: &G, block: &[Option<u32>]) -> Result<bool, Memory>
     requires partition { IsPartition (digraph_shape G.Digraph g.now) block.now }
-    ensures { IfOk result (λ yes. Agrees (digraph_shape G.Digraph g.now) block.now (FB (digraph_shape G.Digraph g.now)) → IsTrue yes) }
+    ensures { IfOk result (λ yes. IsTrue yes ↔ Agrees (digraph_shape G.Digraph g.now) block.now (FB (digraph_shape G.Digraph g.now))) }
 {
-    let next = next_both(alloc, g, block)?;
-    let yes = determines(alloc, block, &next)?;
-    Ok(yes)
+    let right = settled(alloc, g)?;
+    are_same(alloc, &right, block)
 }
 
 /// Whether the blocks are the classes of nodes that are fully bisimilar by parents and children, as in the forward and backward
-/// index (Kaushik et al., SIGMOD 2002). The list is as for `fits_level`. `Memory` comes only where memory runs out. Expected
-/// O(r (n + m log m) + b) for n node numbers, m edges, block numbers below b, and r levels until none parts more nodes: r is at most
-/// n, and 1 for blocks that a round parts. It takes the memory of `fits_level`, with the keys of two levels.
+/// index (Kaushik et al., SIGMOD 2002). The list is as for `fits_level`. `Memory` comes only where memory runs out.
+///
+/// Blocks that aren't stable both ways don't fit. Stable ones are no coarser, so they fit exactly where a partition that is no finer
+/// determines them: that of `part_waiting`, which is stable where its rounds came to their end. They do, but that isn't proved; where
+/// they hadn't, all levels would decide. Expected O(n + m log m + b) for n node numbers, m edges and block numbers below b, and what
+/// `part_waiting` costs.
 pub(crate) fn fits_both<G: Digraph>(
     alloc: Global,
     g: &G,
@@ -110,10 +114,18 @@ pub(crate) fn fits_both<G: Digraph>(
     requires partition { IsPartition (digraph_shape G.Digraph g.now) block.now }
     ensures { IfOk result (λ yes. IsTrue yes ↔ Agrees (digraph_shape G.Digraph g.now) block.now (FB (digraph_shape G.Digraph g.now))) }
 {
-    let may = stays(alloc, g, block)?;
-    if !may {
+    let stable = is_stable_both(alloc, g, block)?;
+    if !stable {
         return Ok(false);
     }
-    let right = settled(alloc, g)?;
-    are_same(alloc, &right, block)
+    let coarse = part_waiting(alloc, g)?;
+    let found = determines(alloc, &coarse, block)?;
+    if found {
+        return Ok(true);
+    }
+    let whole = is_stable_both(alloc, g, &coarse)?;
+    if whole {
+        return Ok(false);
+    }
+    fits_settled(alloc, g, block)
 }

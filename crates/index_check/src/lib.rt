@@ -11,7 +11,9 @@ mod merging;
 mod minimal;
 mod neighbour_lists;
 mod outer;
+mod parts;
 mod refining;
 mod stability;
+mod waiting;
 
 pub use fitting::fits;

@@ -1,7 +1,7 @@
 // Whether a partition is stable.
 ghost use Rattle.std.specs.Prelude.{◌≡◌, ◌≤◌, ◌↔◌, ℕ, IfOk, IsTrue, length};
 ghost use Rattle.bisim_spec.specs.Partitions.{IsPartition};
-ghost use Rattle.bisim_spec.specs.Stability.{Stable};
+ghost use Rattle.bisim_spec.specs.Stability.{Stable, StableBoth};
 ghost use Rattle.index_check.specs.NumberedShapes.{digraph_shape};
 
 use crate::comparing::{are_both, determines};
@@ -28,4 +28,23 @@ pub(crate) fn is_stable<G: Digraph>(
     let labelled = determines(alloc, block, &labels)?;
     let stays = determines(alloc, block, &next)?;
     Ok(are_both(labelled, stays))
+}
+
+/// Whether the partition is stable by parents and by children: besides, nodes of one block have children in the same blocks. It costs
+/// twice what `is_stable` costs.
+pub(crate) fn is_stable_both<G: Digraph>(
+    alloc: Global,
+    g: &G,
+    block: &[Option<u32>],
+) -> Result<bool, Memory>
+    requires partition { IsPartition (digraph_shape G.Digraph g.now) block.now }
+    ensures { IfOk result (λ yes. IsTrue yes ↔ StableBoth (digraph_shape G.Digraph g.now) block.now) }
+{
+    let stable = is_stable(alloc, g, block)?;
+    if !stable {
+        return Ok(false);
+    }
+    let next = refine(alloc, g, Side::Children, block, block)?;
+    let stays = determines(alloc, block, &next)?;
+    Ok(stays)
 }

@@ -17,3 +17,18 @@ mod SavedViewLaws
 mod OneStatement
 mod OneOutcome
 mod Matches
+mod WrittenLines
+mod TakenTexts
+mod TestedRanks
+mod WrittenLabels
+mod WrittenNodes
+mod WrittenEdges
+mod WrittenViews
+mod WrittenOrder
+mod WrittenHeads
+pub mod SpelledFiles
+pub mod OneFile
+pub mod KeptFiles
+pub mod FittingFiles
+pub mod LabelledGraphs
+mod WrittenExamples

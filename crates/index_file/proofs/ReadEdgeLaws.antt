@@ -1,10 +1,9 @@
 -- The edges of a file as they are read.
-use Rattle.std.proofs.Common.{◌≡◌, ℕ, zero, suc, ◌+◌, ◌<◌, ◌≤◌, List, [], ◌∷◌, ◌++◌, length, get_or, Option, Some, None, IsTrue, Bool, true, false, true≢false, refl, sym, ◌∙◌, ap, subst, arith}
+use Rattle.std.proofs.Common.{◌≡◌, ℕ, zero, suc, ◌<◌, List, [], ◌∷◌, ◌++◌, length, get_or, Option, Some, None, IsTrue, true, true≢false, refl, sym, ◌∙◌, ap, subst, arith}
 use Rattle.std.proofs.lemmas.Bool.{and_parts}
 use Rattle.std.specs.Prelude.{◌&&◌}
 use Rattle.index_file.specs.Readings.{Reading, last_of, is_behind, is_live_in, can_take_edge}
 use Rattle.index_file.specs.ReadEdges.{RiseBehind, JoinLive, AreReadEdges}
-use Rattle.index_file.proofs.ReadNodeLaws.{live_below}
 
 -- the last of the edges, or the one before them
 abbrev last_behind : Option (ℕ × ℕ) → List (ℕ × ℕ) → Option (ℕ × ℕ)

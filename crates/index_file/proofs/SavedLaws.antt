@@ -1,35 +1,31 @@
 -- What is read of a whole file, as it is stored.
-use Rattle.std.proofs.Common.{◌≡◌, ℕ, zero, suc, ◌+◌, ◌<◌, ◌≤◌, List, [], ◌∷◌, ◌++◌, length, map, take, get_or, Option, Some, None, IsSome, IsTrue, is_some, Bool, true, false, true≢false, refl, sym, ◌∙◌, ap, subst, arith, inl, inr, nat_eq}
-use Rattle.std.specs.Prelude.{bytes_eq, slice_get, position, option_and_then, if◌then◌else◌, ◌&&◌, ◌||◌}
-use Rattle.std.specs.List.{IsDistinct, list_any}
+use Rattle.std.proofs.Common.{◌≡◌, ℕ, zero, suc, ◌<◌, List, [], ◌∷◌, ◌++◌, length, map, get_or, Option, Some, None, true, false, true≢false, refl, sym, ◌∙◌, ap, subst, arith, inl, inr, nat_eq}
+use Rattle.std.specs.Prelude.{bytes_eq, slice_get, option_and_then, if◌then◌else◌, ◌||◌}
+use Rattle.std.specs.List.{IsDistinct}
 use Rattle.std.proofs.Math.Bool.{or-true}
 use Rattle.std.proofs.lemmas.List.Folds.{list_any-append}
 use Rattle.std.proofs.lemmas.Bool.{cases_Bool, and_parts, eqb-true}
 use Rattle.std.proofs.lemmas.List.{length-map}
-use Rattle.graph_spec.specs.Graphs.{Graph, IsGraph, is_seen, label_of, has_edge}
-use Rattle.graph_spec.specs.Members.{Lists, has}
+use Rattle.graph_spec.specs.Graphs.{IsGraph, is_seen, has_edge}
+use Rattle.graph_spec.specs.Members.{Lists}
 use Rattle.graph_spec.specs.Changes.{with_label}
-use Rattle.graph_spec.specs.Shapes.{shape_of, IsNode}
-use Rattle.label_graph.specs.GraphViews.{label_number, is_linked}
 use Rattle.label_graph.proofs.Tables.{distinct-more, bytes_laws}
-use Rattle.label_graph.proofs.Viewed.{linked_is}
-use Rattle.bisim_spec.specs.Partitions.{IsPartition}
 use Rattle.bisim_spec.specs.declared.sides.Side.TheVariants.{Parents, Children}
 use Rattle.adjacency.specs.Rows.{row, rows_of, edges_in}
 use Rattle.adjacency.specs.Targets.{targets_of, own_first, from_own, BeginBelow}
 use Rattle.adjacency.proofs.RowLaws.{row_first, rows_count}
 use Rattle.index_file.specs.declared.due.Due.{Due}
 use Rattle.index_file.specs.declared.due.Due.TheVariants.{Title, Given, Nodes, Edges, Ranks}
-use Rattle.index_file.specs.SavedFiles.{SavedFile, seen_after, seen_of, edges_of, graph_of, ranks_at}
-use Rattle.index_file.specs.Readings.{Reading, RankedView, is_live_in, live_in, last_via, is_done, is_end, is_complete, file_of, view_in}
-use Rattle.index_file.specs.ReadEdges.{RiseBehind, JoinLive, AreReadEdges}
-use Rattle.index_file.specs.ReadViews.{HaveRanks, most_views}
+use Rattle.index_file.specs.SavedFiles.{seen_after, seen_of, edges_of, graph_of}
+use Rattle.index_file.specs.Readings.{Reading, RankedView, live_in, last_via, is_done, is_end, is_complete, file_of, view_in}
+use Rattle.index_file.specs.ReadEdges.{JoinLive, AreReadEdges}
+use Rattle.index_file.specs.ReadViews.{HaveRanks}
 use Rattle.index_file.specs.Drafts.{IsDraft, FitDue}
-use Rattle.index_file.specs.SavedGraphs.{saved_file, AreNeighbours, ArePlaces, IsSaved, blocks_at, via_at}
+use Rattle.index_file.specs.SavedGraphs.{saved_file, AreNeighbours, ArePlaces, IsSaved}
 use Rattle.index_file.proofs.ReadNodeLaws.{live_below}
 use Rattle.index_file.proofs.ReadEdgeLaws.{ends_live}
 use Rattle.index_file.proofs.ReadRankLaws.{most_end}
-use Rattle.index_file.proofs.SavedEdges.{is_among, edges_are, children_are, parents_are, own_children, row_all, same_edges, children_once, parents_once, edge_live}
+use Rattle.index_file.proofs.SavedEdges.{edges_are, children_are, parents_are, own_children, same_edges, children_once, parents_once, edge_live}
 
 -- labels are seen once
 label_once : (seen : List (List ℕ)) (t : List ℕ) → IsDistinct bytes_eq seen → IsDistinct bytes_eq (with_label seen t)

@@ -1,10 +1,10 @@
 -- The views of a file, by their places.
-use Rattle.std.proofs.Common.{◌≡◌, ℕ, zero, suc, ◌+◌, ◌<◌, ◌≤◌, List, [], ◌∷◌, ◌++◌, length, map, take, get_or, Option, Some, None, IsSome, IsTrue, is_some, Bool, true, false, true≢false, refl, sym, ◌∙◌, ap, subst, arith, inl, inr, nat_lt, length-append}
+use Rattle.std.proofs.Common.{◌≡◌, ℕ, zero, suc, ◌+◌, ◌<◌, ◌≤◌, List, [], ◌∷◌, ◌++◌, length, map, take, get_or, Option, Some, None, IsSome, Bool, true, false, true≢false, refl, sym, ◌∙◌, ap, subst, arith, inl, inr, nat_lt, length-append}
 use Rattle.std.specs.Prelude.{slice_get, option_and_then, option_map, bytes_eq, position, if◌then◌else◌}
 use Rattle.std.specs.List.{IsDistinct}
 use Rattle.std.proofs.lemmas.Bool.{cases_Bool, ltb-true, ltb-false}
 use Rattle.std.proofs.lemmas.List.{get_or_append_left, get_or_push, length-map}
-use Rattle.graph_spec.specs.Graphs.{Graph, IsGraph, label_of, has_edge}
+use Rattle.graph_spec.specs.Graphs.{Graph, IsGraph}
 use Rattle.graph_spec.specs.Members.{at, Lists}
 use Rattle.graph_spec.specs.Shapes.{shape_of}
 use Rattle.label_graph.specs.GraphViews.{label_number, is_linked}
@@ -13,12 +13,12 @@ use Rattle.label_graph.proofs.Positions.{position-at}
 use Rattle.bisim_spec.specs.Partitions.{IsPartition}
 use Rattle.index_api.specs.declared.kinds.Via.{Via}
 use Rattle.adjacency.specs.Rows.{row}
-use Rattle.index_file.specs.SavedFiles.{SavedView, SavedFile, seen_of, graph_of, ranks_at}
+use Rattle.index_file.specs.SavedFiles.{SavedFile, graph_of, ranks_at}
 use Rattle.index_file.specs.Readings.{RankedView, is_live_in, live_in, view_in}
 use Rattle.index_file.specs.ReadViews.{HaveRanks}
 use Rattle.index_file.specs.ReadNodes.{texts_at, AreReadNodes}
 use Rattle.index_file.specs.SavedGraphs.{saved_file, AreNeighbours, ArePlaces, ArePlacesBelow, IsSaved, index_of, blocks_of, blocks_at, via_at}
-use Rattle.index_file.proofs.ReadNodeLaws.{live_told, live_below}
+use Rattle.index_file.proofs.ReadNodeLaws.{live_below}
 use Rattle.index_file.proofs.SavedLaws.{seen_distinct}
 
 one_view : (a b : RankedView) → Some a ≡ Some b → a ≡ b

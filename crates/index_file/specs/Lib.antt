@@ -15,3 +15,5 @@ pub mod WrittenFiles
 pub mod BlockRanks
 pub mod FittingViews
 pub mod SavedIndexes
+pub mod WholeFiles
+pub mod LabelledSteps

@@ -229,8 +229,17 @@ fn first_misfit(alloc: Global, content: &[u8]) -> Result<Option<Via>, Memory> {
 
 #[test]
 fn views_are_checked(rt: HostRuntime) -> Result<(), Fail> {
-    let rows: [(&[u8], Option<Via>); 7] = [
+    let rows: [(&[u8], Option<Via>); 9] = [
         (WHOLE, Some(Via::Data)),
+        // a ring of two nodes, each in a block of its own: stable both ways, and finer than it may be
+        (
+            b"pathindex 1\ngiven 2 k 0\nlive a\nlive a\nedges 2\n0 1\n1 0\nviews 1\nview fb\n0\n1\n",
+            Some(Via::Fb),
+        ),
+        (
+            b"pathindex 1\ngiven 4 k 0\nlive a\nlive a\nlive a\nlive a\nedges 3\n0 1\n1 2\n2 3\nviews 1\nview fb\n0\n1\n2\n3\n",
+            Some(Via::Data),
+        ),
         (
             b"pathindex 1\ngiven 3 k 0\nlive a\nlive b\nlive a\nedges 1\n0 1\nviews 1\nview fb\n0\n1\n0\n",
             Some(Via::Fb),

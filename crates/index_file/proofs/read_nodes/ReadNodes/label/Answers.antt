@@ -1,7 +1,5 @@
-use Rattle.std.proofs.Common.{◌∙◌, ap, sym}
+use Rattle.std.proofs.Common.{◌∙◌, ap}
 use Rattle.graph_spec.specs.Members.{at}
-use Rattle.label_graph.specs.GraphViews.{label_number}
-use Rattle.index_file.specs.SavedFiles.{graph_of}
 use Rattle.index_file.proofs.SavedViewLaws.{label_told}
 use Rattle.index_file.proofs.read_nodes.ReadNodes.label.Goals as goal
 

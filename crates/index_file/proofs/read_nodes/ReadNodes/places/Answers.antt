@@ -1,4 +1,4 @@
-use Rattle.std.proofs.Common.{◌<◌, length, sym, ◌∙◌, ap, arith}
+use Rattle.std.proofs.Common.{arith}
 use Rattle.index_file.proofs.SavedViewLaws.{places_first, places_step, places_all, live_bound}
 use Rattle.index_file.proofs.read_nodes.ReadNodes.places.Goals as goal
 

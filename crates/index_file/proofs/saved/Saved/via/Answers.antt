@@ -1,4 +1,4 @@
-use Rattle.std.proofs.Common.{◌<◌, length, ap, sym, ◌∙◌, arith}
+use Rattle.std.proofs.Common.{length, ap, sym, ◌∙◌, arith}
 use Rattle.index_file.specs.SavedFiles.{SavedFile}
 use Rattle.index_file.specs.SavedGraphs.{via_at}
 use Rattle.index_file.proofs.SavedViewLaws.{views_told, via_there}

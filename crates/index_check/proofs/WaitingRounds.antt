@@ -1,0 +1,14 @@
+-- A round over lists that were handed on.
+use Rattle.std.proofs.Common.{◌≡◌, ℕ, List, Option, subst, length}
+use Rattle.graph_spec.specs.Shapes.{Shape, IsShape}
+use Rattle.index_check.specs.Waiting.{IsOnTheWay, AreGrouped, AreMoved, AreRenamed, AreAround}
+use Rattle.index_check.proofs.WaitingLaws.{waiting_step}
+
+pub round_keeps : (s : Shape) (old new : List (Option ℕ)) (waiting groups groups2 groups3 names names2 names3 moved moved2 members next : List ℕ) → IsShape s → IsOnTheWay s old waiting
+    → AreGrouped s.edge old waiting groups → groups2 ≡ groups → names2 ≡ names → AreMoved old waiting groups2 names2 (length waiting) moved → groups3 ≡ groups → names3 ≡ names
+    → AreRenamed old new waiting groups3 names3 (length waiting) → moved2 ≡ moved → AreAround s.edge new members moved2 next → IsOnTheWay s new next
+round_keeps s old new waiting groups groups2 groups3 names names2 names3 moved moved2 members next shape w g eg en m fg fm c em a =
+    waiting_step s old new waiting groups names moved members next shape w g
+    (subst (λ x. AreMoved old waiting x names (length waiting) moved) eg (subst (λ y. AreMoved old waiting groups2 y (length waiting) moved) en m))
+    (subst (λ x. AreRenamed old new waiting x names (length waiting)) fg (subst (λ y. AreRenamed old new waiting groups3 y (length waiting)) fm c))
+    (subst (λ x. AreAround s.edge new members x next) em a)
