@@ -1,19 +1,24 @@
 -- What the calls of an engine make of it: it is e before and f after.
-use Rattle.std.specs.Prelude.{ℕ, ◌≡◌, ◌≢◌, ◌≤◌, ◌↔◌, List, false, not, Result, Err, IfOk, OnOk}
+use Rattle.std.specs.Prelude.{ℕ, ◌≡◌, ◌≢◌, ◌≤◌, ◌↔◌, ◌⊎◌, List, false, not, Result, Err, IfOk, OnOk, IsSome}
 use Rattle.std.specs.List.{filter}
 use Rattle.change_spec.specs.Steps.{Step, is_new}
 use Rattle.px_base.specs.declared.allocation.Memory.{Memory}
 use Rattle.graph_update.specs.declared.staging.Applied.{Applied}
 use Rattle.graph_update.specs.StagedChanges.{applied_of}
+use Rattle.graph_spec.specs.Shapes.{shape_of}
 use Rattle.bisim_spec.specs.declared.kind.Kind.{Kind}
+use Rattle.bisim_spec.specs.Partitions.{IsPartition}
+use Rattle.bisim_spec.specs.Tests.{together}
+use Rattle.bisim_spec.specs.IndexGraphs.{View}
 use Rattle.index_api.specs.declared.kinds.Via.{Via}
 use Rattle.index_api.specs.declared.kinds.Via.TheVariants.{Fb}
 use Rattle.index_api.specs.Meanings.{KeepsViews}
 use Rattle.index_api.specs.IndexKinds.{is_kind, is_kept, kinds_of}
-use Rattle.extent_report.specs.PrintedLists.{ListsIndex, ListsSizes}
+use Rattle.extent_report.specs.PrintedLists.{ShowsIndex, ListsIndex, ListsSizes}
+use Rattle.index_eval.specs.Exactness.{FitsVia}
 use Rattle.pathindex_core.specs.declared.errors.AskError.{AskError}
 use Rattle.pathindex_core.specs.declared.errors.AskError.TheVariants.{NoIndex}
-use Rattle.pathindex_core.specs.Boxes.{IsFbComputed}
+use Rattle.pathindex_core.specs.Boxes.{IsFbComputed, via_view}
 use Rattle.pathindex_core.specs.Engines.{EngineSeen, EachBecomes, graph_in, kept_in}
 use Rattle.pathindex_core.specs.Updates.{IsUpdated, opened_after}
 use Rattle.pathindex_core.specs.QueryAnswers.{counting_view}
@@ -75,3 +80,29 @@ pub record IsMeasured (e f : EngineSeen) (result : Result (List ℕ) Memory) (be
   pub cost : after ≤ counting_view before (graph_in e.opened)
   -- nothing, where that index isn't kept or its view is computed already
   pub still : IsFbComputed e.boxes → after ≡ before
+
+-- What a call of `ready` answers, computes and reads. The last two numbers count what was read of the graph, before and after.
+pub record IsReadied (e f : EngineSeen) (via : Via) (result : Result (Unit {0}) AskError) (before after : ℕ) : Type 0 where
+  -- unless an error comes, the view of the index is there afterwards
+  pub there : OnOk result (IsSome (via_view f.boxes via))
+  -- `NoIndex` comes exactly where the index isn't kept
+  pub no_index : (result ≡ Err NoIndex) ↔ (is_kept (kept_in e) via ≡ false)
+  -- where it isn't the forward and backward index that is asked for, every index stays as it is
+  pub others : via ≢ Fb → f.boxes ≡ e.boxes
+  -- of the graph one view at most is read
+  pub cost : after ≤ counting_view before (graph_in e.opened)
+  -- nothing, where it isn't the forward and backward index that is asked for
+  pub free : via ≢ Fb → after ≡ before
+  -- nor where its view is computed already, or isn't kept
+  pub still : IsFbComputed e.boxes → after ≡ before
+
+-- The view is that of an index that is kept: it fits the graph, exactly the nodes have a block, and two of them have the same one exactly
+-- where the index relates them.
+pub record IsViewIn (e : EngineSeen) (via : Via) (v : View) : Type 0 where
+  pub fits : FitsVia via (graph_in e.opened) v
+  pub nodes : IsPartition (shape_of (graph_in e.opened)) v.block_of
+  pub shows : ShowsIndex (graph_in e.opened) (kept_in e) via (together v.block_of)
+
+-- the index isn't kept, or it is the forward and backward index, whose view may be not computed
+abbrev pub LacksView : EngineSeen → Via → Type 0
+LacksView e via = (is_kept (kept_in e) via ≡ false) ⊎ ((via ≡ Fb) × (¬ IsFbComputed e.boxes))

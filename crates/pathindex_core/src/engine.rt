@@ -1,5 +1,5 @@
 // The engine.
-ghost use Rattle.std.specs.Prelude.{◌≡◌, ◌≢◌, ◌<◌, ◌≤◌, ◌↔◌, Err, Some, None, false, map, OnOk, OnErr, IfOk, IsSome};
+ghost use Rattle.std.specs.Prelude.{◌≡◌, ◌≢◌, ◌<◌, ◌≤◌, ◌↔◌, Err, Some, None, false, map, OnOk, OnErr, IfOk, IfSome, IsSome, option_map};
 ghost use Rattle.std.specs.List.{AllPairs};
 ghost use Rattle.change_spec.specs.Steps.{is_new};
 ghost use Rattle.branch_query.specs.Queries.{query_of, path, branch};
@@ -7,8 +7,10 @@ ghost use Rattle.pathindex_core.specs.QueryAnswers.{IsQueried};
 ghost use Rattle.index_api.specs.declared.kinds.Via.TheVariants.{Data as TheGraph};
 ghost use Rattle.index_api.specs.Meanings.{IsBuilt};
 ghost use Rattle.index_api.specs.IndexKinds.{kinds_of, has_kind};
-ghost use Rattle.pathindex_core.specs.Calls.{IsMade, IsForgotten, KeepsAllButViews, IsListed, IsMeasured};
-ghost use Rattle.pathindex_core.specs.Engines.{graph_in, EachBecomes, IsSound, by_meaning};
+ghost use Rattle.quotient.specs.Quotients.{view_of};
+ghost use Rattle.pathindex_core.specs.Calls.{IsMade, IsForgotten, KeepsAllButViews, IsListed, IsMeasured, IsReadied, IsViewIn, LacksView};
+ghost use Rattle.pathindex_core.specs.Boxes.{via_view};
+ghost use Rattle.pathindex_core.specs.Engines.{graph_in, level_in, EachBecomes, IsSound, by_meaning};
 ghost use Rattle.pathindex_core.specs.Updates.{outcome_in};
 
 use crate::asking::ask;
@@ -17,6 +19,7 @@ use crate::errors::{AskError, UpdateError};
 use crate::lists::{list, measure};
 use crate::state::Open;
 use crate::updates::update;
+use crate::views::{ready, summary_of};
 use branch_query::Query;
 use branch_text::Branch;
 use graph_update::{Applied, Change};
@@ -24,6 +27,7 @@ use index_api::{Answer, Kind, PathIndex, Via};
 use label_graph::Graph;
 use path_query::PathExpr;
 use px_base::{Limits, Memory, Refusal, Steps, Text};
+use quotient::Summary;
 use std::alloc::Global;
 use std::marker::{Brand, Model};
 use std::sync::ledger::{Blank, Ledger};
@@ -117,6 +121,17 @@ impl<B: PathIndex> Engine<B> {
     {
         match &self.state {
             Some(open) => &open.graph,
+            None => unreachable!(),
+        }
+    }
+
+    /// The highest level of the A(k)-family: at most 8. O(1), no memory.
+    pub fn level(&self) -> u32
+        requires open { IsSome self.now.opened }
+        ensures { result ≡ level_in self.now.opened }
+    {
+        match &self.state {
+            Some(open) => open.k,
             None => unreachable!(),
         }
     }
@@ -281,5 +296,35 @@ impl<B: PathIndex> Engine<B> {
             Some(open) => measure(alloc, &mut self.boxes, open, steps),
             None => unreachable!(),
         }
+    }
+
+    /// Computes the view of an index, if it isn't; `via` isn't `Data`. `NoIndex` comes exactly if the index isn't kept, memory
+    /// or not. Only the view of the forward and backward index may be missing: computing it takes what `FbIndex` takes, and
+    /// reads one view of the graph. Otherwise nothing of the graph is read, and no memory is taken. An error leaves the graph
+    /// and each view that is computed. O(i) for i indexes, if nothing is computed.
+    pub fn ready<L: Ledger>(&mut self, via: Via, steps: &mut Steps<L>) -> Result<(), AskError>
+        requires open { IsSome self.old.opened }
+        requires sound { IsSound (by_meaning B.meaning self.old) }
+        requires index { via ≢ TheGraph }
+        ensures sound { IsSound (by_meaning B.meaning self.new) }
+        ensures asked { KeepsAllButViews (by_meaning B.meaning self.old) (by_meaning B.meaning self.new) }
+        ensures readied { IsReadied (by_meaning B.meaning self.old) (by_meaning B.meaning self.new) via result steps.old steps.new }
+    {
+        match &self.state {
+            Some(open) => ready(&mut self.boxes, open, via, steps),
+            None => unreachable!(),
+        }
+    }
+
+    /// The view of an index: its blocks, and the edges between them. None exactly if `via` is the graph itself, the index isn't
+    /// kept, or its view isn't computed, which `ready` does. O(i) for i indexes, no memory.
+    pub fn look(&self, via: Via) -> Option<&Summary>
+        requires open { IsSome self.now.opened }
+        requires sound { IsSound (by_meaning B.meaning self.now) }
+        ensures view { option_map (λ s. view_of s.now) result ≡ via_view (map B.meaning self.now.boxes) via }
+        ensures shown { IfSome result (λ s. IsViewIn (by_meaning B.meaning self.now) via (view_of s.now)) }
+        ensures none { (result ≡ None) ↔ LacksView (by_meaning B.meaning self.now) via }
+    {
+        summary_of(&self.boxes, via)
     }
 }

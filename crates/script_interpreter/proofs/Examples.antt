@@ -17,7 +17,7 @@ use Rattle.triple_names.specs.Names.{no_names}
 use Rattle.triple_names.specs.TripleChanges.{insert_steps}
 use Rattle.path_query.specs.Labels.{IsPlainLabel, SpellsLabel}
 use Rattle.script_interpreter.specs.LineTexts.{reply, bad_line}
-use Rattle.script_read.specs.Commands.{Command, change, begin, end as end_group, insert, delete, path, branch, why, check, extents, sizes, forget, IsSpelled, Asks, by_path, by_branch, by_why, by_check, NoCommand}
+use Rattle.script_read.specs.Commands.{Command, change, begin, end as end_group, insert, delete, path, branch, why, check, extents, sizes, save, forget, IsSpelled, Asks, by_path, by_branch, by_why, by_check, NoCommand}
 use Rattle.script_read.specs.FirstWords.{first_word}
 use Rattle.script_interpreter.specs.declared.group.Scope.TheVariants.{Line as OfLine, Group as OfGroup}
 use Rattle.script_interpreter.specs.declared.printing.Printing.TheVariants.{Whole, Brief}
@@ -121,6 +121,7 @@ no_label = (λ q. omega (arith, q), other)
     other (check nodes e) h = omega (arith, ap (λ l. slice_index l 0) h.0.0)
     other (extents via) h = omega (arith, ap length h.0)
     other sizes h = omega (arith, ap (λ ws. slice_index (first ws) 0) h)
+    other save h = omega (arith, ap (λ ws. slice_index (first ws) 0) h)
     other (forget kind) h = omega (arith, ap length h)
 
 -- the second line is no command, so the third isn't taken

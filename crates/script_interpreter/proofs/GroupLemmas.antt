@@ -9,7 +9,7 @@ use Rattle.graph_spec.specs.declared.refusal.Refusal.{Refusal}
 use Rattle.graph_spec.specs.declared.refusal.Refusal.TheVariants.{Limit}
 use Rattle.graph_spec.specs.Graphs.{Graph}
 use Rattle.change_spec.specs.Steps.{Step, node, link, unlink, drop, relabel, apply, MOST_STEPS}
-use Rattle.script_read.specs.Commands.{Command, change, begin, end, insert, delete, path, branch, why, check, extents, sizes, forget, IsQuiet, IsSpelled, PassesLimit, SpellsNothing}
+use Rattle.script_read.specs.Commands.{Command, change, begin, end, insert, delete, path, branch, why, check, extents, sizes, save, forget, IsQuiet, IsSpelled, PassesLimit, SpellsNothing}
 use Rattle.script_read.proofs.CommandLemmas.{keyword, begins, lead, no_query, silent, free, node_free, relabel_free, quiet_free}
 use Rattle.script_interpreter.specs.declared.group.Scope.{Scope}
 use Rattle.script_interpreter.specs.declared.group.Scope.TheVariants.{Group as Lines}
@@ -122,6 +122,7 @@ not_in_group line c h n e (inr (inl k)) = apart c h n k.0 (one_word line c (chan
     apart (check v f) h n x w k = (no_query x).no_check (sym (ap lead w))
     apart (extents v) h n x w k = (no_query x).no_extents (sym (ap lead w))
     apart sizes h n x w k = (no_query x).no_sizes (sym (ap lead w))
+    apart save h n x w k = (no_query x).no_save (sym (ap lead w))
     apart (forget v) h n x w k = (no_query x).no_forget (sym (ap lead w))
 not_in_group line c h n e (inr (inr k)) = apart c h n e (one_word line c end h k)
   where

@@ -8,6 +8,7 @@ use Rattle.index_api.specs.IndexKinds.{is_kept}
 use Rattle.branch_query.specs.Queries.{Query}
 use Rattle.extent_report.specs.PrintedAnswers.{answer_text}
 use Rattle.extent_report.specs.PrintedLists.{ListsIndex, ListsSizes}
+use Rattle.index_file.specs.SavedIndexes.{SavesFile}
 use Rattle.pathindex_core.specs.QueryAnswers.{IsAnswered}
 use Rattle.script_interpreter.specs.LineTexts.{refused_line}
 use Rattle.script_interpreter.specs.declared.printing.Printing.{Printing}
@@ -27,3 +28,7 @@ pub data ShowsExtents (s : State) : Via → List ℕ → Bool → Type 0 where
 -- what `sizes` prints
 abbrev pub ShowsSizes : State → List ℕ → Type 0
 ShowsSizes s text = ListsSizes s.graph s.kept text
+
+-- what `save` prints: the present graph and the indexes that are kept, as an index file
+abbrev pub ShowsFile : State → List ℕ → Type 0
+ShowsFile s text = SavesFile s.graph s.kept text

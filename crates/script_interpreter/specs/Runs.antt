@@ -22,9 +22,9 @@ use Rattle.script_interpreter.specs.declared.group.Scope.{Scope}
 use Rattle.script_interpreter.specs.declared.group.Scope.TheVariants.{Line as OfLine, Group as OfGroup}
 use Rattle.script_interpreter.specs.LineTexts.{reply, refused_line, ok_line, bad_line}
 use Rattle.script_interpreter.specs.States.{State, keeps, forgotten}
-use Rattle.script_interpreter.specs.Indexes.{ShowsAnswers, ShowsExtents, ShowsSizes}
+use Rattle.script_interpreter.specs.Indexes.{ShowsAnswers, ShowsExtents, ShowsSizes, ShowsFile}
 use Rattle.script_interpreter.specs.Walks.{ShowsWhy, ShowsCheck}
-use Rattle.script_read.specs.Commands.{Command, change, begin, end, insert, delete, path, branch, why, check, extents, sizes, forget, IsQuiet, IsSpelled, PassesLimit, SpellsNothing}
+use Rattle.script_read.specs.Commands.{Command, change, begin, end, insert, delete, path, branch, why, check, extents, sizes, save, forget, IsQuiet, IsSpelled, PassesLimit, SpellsNothing}
 
 -- An accepted change leads from the state s to t, whose graph is h. The same indexes are kept, and no number of a term or a triple
 -- changes. A change whose steps are all idle leaves the whole state. Each other one moves the blocks of the 1-index, if it is kept, by one step.
@@ -67,6 +67,7 @@ pub data Obeys (rules : Rules) (s : State) : Command → List ℕ → Bool → S
   checks : (nodes : List ℕ) (e : Expr) (text : List ℕ) → ShowsCheck s nodes e text → Obeys rules s (check nodes e) text false s
   lists : (via : Via) (text : List ℕ) (refuses : Bool) → ShowsExtents s via text refuses → Obeys rules s (extents via) text refuses s
   measures : (text : List ℕ) → ShowsSizes s text → Obeys rules s sizes text false s
+  saves : (text : List ℕ) → ShowsFile s text → Obeys rules s save text false s
   forgets : (kind : Kind) → keeps s kind ≡ true → Obeys rules s (forget kind) (if_whole rules.printing ok_line) false (forgotten kind s)
   lacks : (kind : Kind) → keeps s kind ≡ false → Obeys rules s (forget kind) (refused_line NoIndex) true s
 

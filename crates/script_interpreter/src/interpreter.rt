@@ -24,6 +24,7 @@ ghost use Rattle.script_interpreter.specs.OpenGroups.{IsKeptAs};
 use crate::changes::{change, delete, insert, make};
 use crate::group::{OpenGroup, Scope};
 use crate::output::Output;
+use crate::saving::save;
 use branch_query::Query;
 use extent_report::{answer_text, walk_text};
 use graph_update::Step;
@@ -278,6 +279,7 @@ fn obey<B: PathIndex, L: Ledger>(
         Command::Check(walk, expr) => check(alloc, engine, &walk, &expr, output),
         Command::Extents(via) => list(alloc, engine, via, output, &mut steps),
         Command::Sizes => measure(alloc, engine, output, &mut steps),
+        Command::Save => save(alloc, engine, output, &mut steps),
         Command::Forget(kind) => forget(engine, kind, output),
     }
 }
@@ -317,6 +319,7 @@ fn step(command: Command) -> Option<Step>
         Command::Check(_, _) => None,
         Command::Extents(_) => None,
         Command::Sizes => None,
+        Command::Save => None,
         Command::Forget(_) => None,
     }
 }

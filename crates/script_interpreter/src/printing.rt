@@ -2,8 +2,8 @@
 ghost use Rattle.std.specs.Prelude.{◌≡◌};
 ghost use Rattle.script_interpreter.specs.Rules.{prints_nodes};
 
-/// How much the lines of a script print. A line that is refused, `why`, `check`, `extents` and `sizes` print the same
-/// in both.
+/// How much the lines of a script print. A line that is refused, `why`, `check`, `extents`, `sizes` and `save`
+/// print the same in both.
 #[derive(Clone, Copy, Debug, PartialEq, Eq)]
 pub enum Printing {
     /// Each change that is accepted, each index that is forgotten and each answer print their lines.

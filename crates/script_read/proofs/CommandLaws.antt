@@ -13,7 +13,7 @@ use Rattle.index_api.specs.declared.kinds.Via.{Via}
 use Rattle.index_api.specs.declared.kinds.Via.TheVariants.{Data, A, One, Fb, B}
 use Rattle.index_api.specs.Spelling.{via_word, kind_word}
 use Rattle.script_read.specs.FirstWords.{first_word, behind_word, expression_text}
-use Rattle.script_read.specs.Commands.{Command, change, begin, end, insert, delete, path, branch, why, check, extents, sizes, forget, IsIndex, IsVia, IsQuiet, IsSpelled, SpellsPair, SpellsNodes, AsksWith, Asks, NoCommand, SpellsOnce, LabelsOnce, PathsOnce, BranchesOnce}
+use Rattle.script_read.specs.Commands.{Command, change, begin, end, insert, delete, path, branch, why, check, extents, sizes, save, forget, IsIndex, IsVia, IsQuiet, IsSpelled, SpellsPair, SpellsNodes, AsksWith, Asks, NoCommand, SpellsOnce, LabelsOnce, PathsOnce, BranchesOnce}
 use Rattle.script_read.specs.ScannedLines.{SaysNode, SaysRelabel, SaysTriple, SaysQuery, SaysWhy, SaysCheck, IsWhole}
 use Rattle.script_read.proofs.WordLemmas.{head_word, is_split}
 use Rattle.script_read.proofs.CommandLemmas.{second_same, third_same, lead, no_query, OpensWhole, no_part, opens_insert, opens_delete, apart, begins, opens_node, opens_relabel, silent}
@@ -109,6 +109,7 @@ command_one line o (check xs e) (check ys f) h k =
     ap (λ n. check n e) (nodes_once (first_word (behind_word line)) xs ys h.0.1 k.0.1) ∙ ap (check ys) (o.expression (inr (inr (ap lead h.0.0))) e f h.1 k.1)
 command_one line o (extents v) (extents w) h k = ap extents (via_one v w (index_via v h.1) (index_via w k.1) (second_same (sym h.0 ∙ k.0)))
 command_one line o sizes sizes h k = refl
+command_one line o save save h k = refl
 command_one line o begin begin h k = refl
 command_one line o end end h k = refl
 command_one line o (insert t) (insert u) h k = ap insert (one_reading (behind_word line) t u h.1 k.1)
@@ -128,6 +129,7 @@ command_one line o (change c) (why v e) h k = absurd (apart (first_word line) _ 
 command_one line o (change c) (check v e) h k = absurd (apart (first_word line) _ _ (begins line (change c) h) (begins line (check v e) k) (no_query c).no_check)
 command_one line o (change c) (extents v) h k = absurd (apart (first_word line) _ _ (begins line (change c) h) (begins line (extents v) k) (no_query c).no_extents)
 command_one line o (change c) sizes h k = absurd (apart (first_word line) _ _ (begins line (change c) h) (begins line sizes k) (no_query c).no_sizes)
+command_one line o (change c) save h k = absurd (apart (first_word line) _ _ (begins line (change c) h) (begins line save k) (no_query c).no_save)
 command_one line o (change c) (forget v) h k = absurd (apart (first_word line) _ _ (begins line (change c) h) (begins line (forget v) k) (no_query c).no_forget)
 command_one line o (path v e) (change c) h k = absurd (apart (first_word line) _ _ (begins line (change c) k) (begins line (path v e) h) (no_query c).no_path)
 command_one line o (branch v e) (change c) h k = absurd (apart (first_word line) _ _ (begins line (change c) k) (begins line (branch v e) h) (no_query c).no_branch)
@@ -135,6 +137,7 @@ command_one line o (why v e) (change c) h k = absurd (apart (first_word line) _ 
 command_one line o (check v e) (change c) h k = absurd (apart (first_word line) _ _ (begins line (change c) k) (begins line (check v e) h) (no_query c).no_check)
 command_one line o (extents v) (change c) h k = absurd (apart (first_word line) _ _ (begins line (change c) k) (begins line (extents v) h) (no_query c).no_extents)
 command_one line o sizes (change c) h k = absurd (apart (first_word line) _ _ (begins line (change c) k) (begins line sizes h) (no_query c).no_sizes)
+command_one line o save (change c) h k = absurd (apart (first_word line) _ _ (begins line (change c) k) (begins line save h) (no_query c).no_save)
 command_one line o (forget v) (change c) h k = absurd (apart (first_word line) _ _ (begins line (change c) k) (begins line (forget v) h) (no_query c).no_forget)
 command_one line o c d h k = absurd (apart (first_word line) _ _ (begins line c h) (begins line d k) (λ e. omega (arith, e)))
 

@@ -19,7 +19,7 @@ use Rattle.script_read.specs.ReadLines.{ReadsCommand}
 use Rattle.script_read.specs.declared.commands.ScriptError.{ScriptError}
 use Rattle.script_read.specs.declared.commands.ScriptError.TheVariants.{Bad, Limit, Memory}
 use Rattle.graph_spec.specs.Words.{node_word}
-use Rattle.script_read.specs.Commands.{Command, change, begin, end, insert, delete, path, branch, why, check, extents, sizes, forget, IsIndex, IsVia, SaysNothing, IsQuiet, AsksWith, Asks, by_path, by_branch, by_why, by_check, SpellsNodes, SpellsPath, SpellsBranch, SpellsWhy, SpellsCheck, PassesLimit, IsSpelled, NoCommand}
+use Rattle.script_read.specs.Commands.{Command, change, begin, end, insert, delete, path, branch, why, check, extents, sizes, save, forget, IsIndex, IsVia, SaysNothing, IsQuiet, AsksWith, Asks, by_path, by_branch, by_why, by_check, SpellsNodes, SpellsPath, SpellsBranch, SpellsWhy, SpellsCheck, PassesLimit, IsSpelled, NoCommand}
 use Rattle.script_read.specs.FirstWords.{IsSplit, OpensNothing, first_word, behind_word, expression_text}
 use Rattle.script_read.proofs.WordLemmas.{head_word, is_split, words-cons}
 
@@ -51,6 +51,7 @@ keyword (why v e) = codes "why"
 keyword (check nodes e) = codes "check"
 keyword (extents via) = codes "extents"
 keyword sizes = codes "sizes"
+keyword save = codes "save"
 keyword (forget kind) = codes "forget"
 
 -- two lists of words with the same second word
@@ -77,15 +78,16 @@ pub record OpensChange (b : ℕ) : Type 0 where
   pub no_check : b ≢ lead (codes "check")
   pub no_extents : b ≢ lead (codes "extents")
   pub no_sizes : b ≢ lead (codes "sizes")
+  pub no_save : b ≢ lead (codes "save")
   pub no_forget : b ≢ lead (codes "forget")
 
 -- a change begins with no word of another command
 pub no_query : (s : Step) → OpensChange (lead (keyword (change s)))
-no_query (node t) = record { no_begin = λ e. omega (arith, e); no_end = λ e. omega (arith, e); no_insert = λ e. omega (arith, e); no_delete = λ e. omega (arith, e); no_path = λ e. omega (arith, e); no_branch = λ e. omega (arith, e); no_why = λ e. omega (arith, e); no_check = λ e. omega (arith, e); no_extents = λ e. omega (arith, e); no_sizes = λ e. omega (arith, e); no_forget = λ e. omega (arith, e) }
-no_query (link u v) = record { no_begin = λ e. omega (arith, e); no_end = λ e. omega (arith, e); no_insert = λ e. omega (arith, e); no_delete = λ e. omega (arith, e); no_path = λ e. omega (arith, e); no_branch = λ e. omega (arith, e); no_why = λ e. omega (arith, e); no_check = λ e. omega (arith, e); no_extents = λ e. omega (arith, e); no_sizes = λ e. omega (arith, e); no_forget = λ e. omega (arith, e) }
-no_query (unlink u v) = record { no_begin = λ e. omega (arith, e); no_end = λ e. omega (arith, e); no_insert = λ e. omega (arith, e); no_delete = λ e. omega (arith, e); no_path = λ e. omega (arith, e); no_branch = λ e. omega (arith, e); no_why = λ e. omega (arith, e); no_check = λ e. omega (arith, e); no_extents = λ e. omega (arith, e); no_sizes = λ e. omega (arith, e); no_forget = λ e. omega (arith, e) }
-no_query (drop u) = record { no_begin = λ e. omega (arith, e); no_end = λ e. omega (arith, e); no_insert = λ e. omega (arith, e); no_delete = λ e. omega (arith, e); no_path = λ e. omega (arith, e); no_branch = λ e. omega (arith, e); no_why = λ e. omega (arith, e); no_check = λ e. omega (arith, e); no_extents = λ e. omega (arith, e); no_sizes = λ e. omega (arith, e); no_forget = λ e. omega (arith, e) }
-no_query (relabel u t) = record { no_begin = λ e. omega (arith, e); no_end = λ e. omega (arith, e); no_insert = λ e. omega (arith, e); no_delete = λ e. omega (arith, e); no_path = λ e. omega (arith, e); no_branch = λ e. omega (arith, e); no_why = λ e. omega (arith, e); no_check = λ e. omega (arith, e); no_extents = λ e. omega (arith, e); no_sizes = λ e. omega (arith, e); no_forget = λ e. omega (arith, e) }
+no_query (node t) = record { no_begin = λ e. omega (arith, e); no_end = λ e. omega (arith, e); no_insert = λ e. omega (arith, e); no_delete = λ e. omega (arith, e); no_path = λ e. omega (arith, e); no_branch = λ e. omega (arith, e); no_why = λ e. omega (arith, e); no_check = λ e. omega (arith, e); no_extents = λ e. omega (arith, e); no_sizes = λ e. omega (arith, e); no_save = λ e. omega (arith, e); no_forget = λ e. omega (arith, e) }
+no_query (link u v) = record { no_begin = λ e. omega (arith, e); no_end = λ e. omega (arith, e); no_insert = λ e. omega (arith, e); no_delete = λ e. omega (arith, e); no_path = λ e. omega (arith, e); no_branch = λ e. omega (arith, e); no_why = λ e. omega (arith, e); no_check = λ e. omega (arith, e); no_extents = λ e. omega (arith, e); no_sizes = λ e. omega (arith, e); no_save = λ e. omega (arith, e); no_forget = λ e. omega (arith, e) }
+no_query (unlink u v) = record { no_begin = λ e. omega (arith, e); no_end = λ e. omega (arith, e); no_insert = λ e. omega (arith, e); no_delete = λ e. omega (arith, e); no_path = λ e. omega (arith, e); no_branch = λ e. omega (arith, e); no_why = λ e. omega (arith, e); no_check = λ e. omega (arith, e); no_extents = λ e. omega (arith, e); no_sizes = λ e. omega (arith, e); no_save = λ e. omega (arith, e); no_forget = λ e. omega (arith, e) }
+no_query (drop u) = record { no_begin = λ e. omega (arith, e); no_end = λ e. omega (arith, e); no_insert = λ e. omega (arith, e); no_delete = λ e. omega (arith, e); no_path = λ e. omega (arith, e); no_branch = λ e. omega (arith, e); no_why = λ e. omega (arith, e); no_check = λ e. omega (arith, e); no_extents = λ e. omega (arith, e); no_sizes = λ e. omega (arith, e); no_save = λ e. omega (arith, e); no_forget = λ e. omega (arith, e) }
+no_query (relabel u t) = record { no_begin = λ e. omega (arith, e); no_end = λ e. omega (arith, e); no_insert = λ e. omega (arith, e); no_delete = λ e. omega (arith, e); no_path = λ e. omega (arith, e); no_branch = λ e. omega (arith, e); no_why = λ e. omega (arith, e); no_check = λ e. omega (arith, e); no_extents = λ e. omega (arith, e); no_sizes = λ e. omega (arith, e); no_save = λ e. omega (arith, e); no_forget = λ e. omega (arith, e) }
 
 -- first bytes that aren't those of `node`, `relabel`, `path`, `branch`, `why` or `check`
 pub record OpensWhole (b : ℕ) : Type 0 where
@@ -125,6 +127,7 @@ begins line (why v e) h = h.0.0
 begins line (check nodes e) h = h.0.0
 begins line (extents via) h = (head_word line _ _ _ _ (is_split line) h.0).0
 begins line sizes h = (head_word line _ _ _ _ (is_split line) h).0
+begins line save h = (head_word line _ _ _ _ (is_split line) h).0
 begins line (forget kind) h = (head_word line _ _ _ _ (is_split line) h).0
 
 -- a line that asks begins with `path`, `branch`, `why` or `check`
@@ -294,6 +297,14 @@ module _ (line word rest : List ℕ) (loud : ¬ OpensNothing word) (is_first : w
       other (change d) h = clash _ e (change d) h (λ z. (no_query d).no_sizes (sym z))
       other c h = clash _ e c h (λ d. omega (arith, d))
 
+  pub none_save : word ≡ codes "save" → words rest ≢ [] → NoCommand line × (¬ Asks line)
+  none_save e absent = ((not_quiet, other), no_asks _ e (λ d. omega (arith, d)) (λ d. omega (arith, d)) (λ d. omega (arith, d)) (λ d. omega (arith, d)))
+    where
+      other : (c : Command) → IsSpelled line c → ⊥
+      other save h = absent (follows _ _ h)
+      other (change d) h = clash _ e (change d) h (λ z. (no_query d).no_save (sym z))
+      other c h = clash _ e c h (λ d. omega (arith, d))
+
   pub none_forget : word ≡ codes "forget" → ((kind : Kind) → words rest ≢ kind_word kind ∷ []) → NoCommand line × (¬ Asks line)
   none_forget e absent = ((not_quiet, other), no_asks _ e (λ d. omega (arith, d)) (λ d. omega (arith, d)) (λ d. omega (arith, d)) (λ d. omega (arith, d)))
     where
@@ -354,6 +365,7 @@ module _ (line word rest : List ℕ) (loud : ¬ OpensNothing word) (is_first : w
       other (check nodes e) h = o.group.report.no_check (starts (check nodes e) h)
       other (extents via) h = o.group.no_extents (starts (extents via) h)
       other sizes h = o.group.no_sizes (starts sizes h)
+      other save h = o.group.no_save (starts save h)
       other (forget kind) h = o.group.no_forget (starts (forget kind) h)
 
       asks : ¬ Asks line
@@ -382,6 +394,7 @@ silent line q c h = loud c h (subst OpensNothing (begins line c h) (quiet_opens 
     loud (check nodes e) h o = omega (arith, o)
     loud (extents via) h o = omega (arith, o)
     loud sizes h o = omega (arith, o)
+    loud save h o = omega (arith, o)
     loud (forget kind) h o = omega (arith, o)
 
 -- a line that asks nothing passes no limit on expressions

@@ -16,7 +16,7 @@ use Rattle.bisim_spec.specs.declared.kind.Kind.{Kind}
 use Rattle.bisim_spec.specs.declared.kind.Kind.TheVariants as kind
 use Rattle.index_api.specs.declared.kinds.Via.{Via}
 use Rattle.index_api.specs.declared.kinds.Via.TheVariants.{Data, A, One, Fb, B}
-use Rattle.script_read.specs.Commands.{Command, change, begin, end as end_group, insert, delete, path, branch, why, check, extents, sizes, forget, IsQuiet, IsSpelled, SpellsNodes, NoCommand}
+use Rattle.script_read.specs.Commands.{Command, change, begin, end as end_group, insert, delete, path, branch, why, check, extents, sizes, save, forget, IsQuiet, IsSpelled, SpellsNodes, NoCommand}
 use Rattle.script_read.specs.FirstWords.{expression_text}
 
 -- blanks may stand at both ends and between the words
@@ -277,6 +277,19 @@ sizes_spelled = refl
 no_word_behind_sizes : ¬ IsSpelled (codes "sizes x") sizes
 no_word_behind_sizes h = omega (arith, ap length h)
 
+-- so does `save`, which is a word of its own
+save_spelled : IsSpelled (codes "\tsave ") save
+save_spelled = refl
+
+no_word_behind_save : ¬ IsSpelled (codes "save f") save
+no_word_behind_save h = omega (arith, ap length h)
+
+no_saves : ¬ IsSpelled (codes "saves") save
+no_saves h = omega (arith, ap (λ ws. length (first ws)) h)
+
+no_sizes_saved : ¬ IsSpelled (codes "sizes") save
+no_sizes_saved h = omega (arith, ap (λ ws. slice_index (first ws) 1) h)
+
 -- the text of an expression has no blanks at its ends, and all those that stand within it
 text_of_query : expression_text (codes " path\tdata  a / b\t ") ≡ codes "a / b"
 text_of_query = refl
@@ -305,4 +318,5 @@ bad_label = (λ q. omega (arith, q), other)
     other (check nodes e) h = omega (arith, ap (λ l. slice_index l 0) h.0.0)
     other (extents via) h = omega (arith, ap (λ ws. slice_index (first ws) 0) h.0)
     other sizes h = omega (arith, ap length h)
+    other save h = omega (arith, ap length h)
     other (forget kind) h = omega (arith, ap (λ ws. slice_index (first ws) 0) h)

@@ -38,6 +38,8 @@ pub data Command : Type 0 where
   extents : Via → Command
   -- how many nodes and edges the graph and each index have
   sizes : Command
+  -- the graph and the indexes that are kept, as an index file
+  save : Command
   -- the indexes of this kind are kept no longer
   forget : Kind → Command
 
@@ -152,6 +154,7 @@ IsSpelled line (why v e) = SpellsWhy line v e
 IsSpelled line (check nodes e) = SpellsCheck line nodes e
 IsSpelled line (extents via) = SpellsExtents line via
 IsSpelled line sizes = words line ≡ codes "sizes" ∷ []
+IsSpelled line save = words line ≡ codes "save" ∷ []
 IsSpelled line (forget kind) = SpellsForget line kind
 
 -- the line is neither quiet nor a command

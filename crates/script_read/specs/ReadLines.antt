@@ -2,9 +2,9 @@
 use Rattle.std.specs.Prelude.{ℕ, ⊤, List, Option, None, Some, Result, Ok, Err}
 use Rattle.graph_spec.specs.declared.limits.Limits.{Limits}
 use Rattle.change_spec.specs.Steps.{node, link, unlink, drop, relabel}
-use Rattle.script_read.specs.Commands.{Command, change, begin, end, insert, delete, path, branch, why, check, extents, sizes, forget, IsQuiet, IsSpelled, PassesLimit, SpellsNothing}
+use Rattle.script_read.specs.Commands.{Command, change, begin, end, insert, delete, path, branch, why, check, extents, sizes, save, forget, IsQuiet, IsSpelled, PassesLimit, SpellsNothing}
 use Rattle.script_read.specs.declared.commands.Command.{Command as Asked}
-use Rattle.script_read.specs.declared.commands.Command.TheVariants.{Node, Link, Unlink, Drop, Relabel, Begin, End, Insert, Delete, Path, Branch, Why, Check, Extents, Sizes, Forget}
+use Rattle.script_read.specs.declared.commands.Command.TheVariants.{Node, Link, Unlink, Drop, Relabel, Begin, End, Insert, Delete, Path, Branch, Why, Check, Extents, Sizes, Save, Forget}
 use Rattle.script_read.specs.declared.commands.ScriptError.{ScriptError}
 use Rattle.script_read.specs.declared.commands.ScriptError.TheVariants.{Bad, Limit, Memory}
 
@@ -25,6 +25,7 @@ command_of (Why v e) = why v e
 command_of (Check nodes e) = check nodes e
 command_of (Extents via) = extents via
 command_of Sizes = sizes
+command_of Save = save
 command_of (Forget kind) = forget kind
 
 -- The line is quiet; it spells this command, and passes no limit on expressions; it passes one; or it spells nothing. If memory

@@ -60,11 +60,12 @@ pub record OpensReport (word : List ℕ) : Type 0 where
   pub no_why : word ≢ codes "why"
   pub no_check : word ≢ codes "check"
 
--- nor is it the first word of a line that asks for lists or sizes, or forgets an index
+-- nor is it the first word of a line that asks for lists, sizes or a file, or forgets an index
 pub record OpensGroup (word : List ℕ) : Type 0 where
   pub report : OpensReport word
   pub no_extents : word ≢ codes "extents"
   pub no_sizes : word ≢ codes "sizes"
+  pub no_save : word ≢ codes "save"
   pub no_forget : word ≢ codes "forget"
 
 -- nor that of a line that begins or ends a group

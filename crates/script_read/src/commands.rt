@@ -61,6 +61,8 @@ pub enum Command {
     Extents(Via),
     /// `sizes`: how many nodes and edges the graph and each index have.
     Sizes,
+    /// `save`: the graph and the indexes that are kept, as an index file.
+    Save,
     /// `forget KIND`: the indexes of this kind are kept no longer.
     Forget(Kind),
 }

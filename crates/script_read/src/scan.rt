@@ -134,6 +134,12 @@ fn scan_report<'a>(word: &'a [u8], rest: &'a [u8]) -> ScannedLine<'a>
         } else {
             ScannedLine::Bad
         }
+    } else if is_word(word, "save") {
+        if is_over(rest) {
+            ScannedLine::Whole(Command::Save)
+        } else {
+            ScannedLine::Bad
+        }
     } else if is_word(word, "forget") {
         match one_kind(rest) {
             Some(kind) => ScannedLine::Whole(Command::Forget(kind)),

@@ -23,6 +23,7 @@ enum Short {
     Check(u32, u32),
     Extents(Via),
     Sizes,
+    Save,
     Forget(Kind),
     Bad,
     Limit,
@@ -50,6 +51,7 @@ fn shorten(read: Result<Option<Command>, ScriptError>) -> Short {
         },
         Ok(Some(Command::Extents(via))) => Short::Extents(via),
         Ok(Some(Command::Sizes)) => Short::Sizes,
+        Ok(Some(Command::Save)) => Short::Save,
         Ok(Some(Command::Forget(kind))) => Short::Forget(kind),
         Err(ScriptError::Bad) => Short::Bad,
         Err(ScriptError::Limit) => Short::Limit,
@@ -59,7 +61,7 @@ fn shorten(read: Result<Option<Command>, ScriptError>) -> Short {
 
 #[test]
 fn lines_are_commands(rt: HostRuntime) -> Result<(), Fail> {
-    let rows: [(&[u8], Short); 33] = [
+    let rows: [(&[u8], Short); 34] = [
         (b"", Short::Quiet),
         (b" \t# node a", Short::Quiet),
         (b" node\ta ", Short::Node),
@@ -99,6 +101,7 @@ fn lines_are_commands(rt: HostRuntime) -> Result<(), Fail> {
         (b"extents a4294967295", Short::Extents(Via::A(4294967295))),
         (b"extents b1", Short::Extents(Via::B(1))),
         (b"sizes", Short::Sizes),
+        (b"\tsave ", Short::Save),
         (b"forget a", Short::Forget(Kind::A)),
         (b" forget fb\t", Short::Forget(Kind::Fb)),
         (b"forget b", Short::Forget(Kind::B)),
@@ -112,7 +115,7 @@ fn lines_are_commands(rt: HostRuntime) -> Result<(), Fail> {
 
 #[test]
 fn near_misses_are_bad(rt: HostRuntime) -> Result<(), Fail> {
-    let lines: [&[u8]; 54] = [
+    let lines: [&[u8]; 57] = [
         b"node",
         b"node and",
         b"node a b",
@@ -164,6 +167,9 @@ fn near_misses_are_bad(rt: HostRuntime) -> Result<(), Fail> {
         b"extents a4294967296",
         b"extents one fb",
         b"sizes x",
+        b"save x",
+        b"saves",
+        b"sav",
         b"forget data",
         b"forget a0",
         b"forget one fb",
