@@ -1,7 +1,7 @@
 #!/usr/bin/env bash
 # Runs each script of examples/ on the program, with the words of NAME.words behind its name where there is such a
-# file, one a line. Compares what it writes with NAME.out, and its exit status with NAME.status, which is 0 where
-# there is no such file.
+# file, one a line, and checks each NAME.index there. Compares what it writes with NAME.out, and its exit status with
+# NAME.status, which is 0 where there is no such file.
 set -eu
 cd "$(dirname "$0")/.."
 program=${1:?usage: tools/compare_examples.sh PROGRAM}
@@ -26,12 +26,19 @@ compare() {
     fi
 }
 
+# status_of NAME
+status_of() {
+    if [ -f "$1.status" ]; then cat "$1.status"; else echo 0; fi
+}
+
 for script in examples/*.script; do
     name=${script%.script}
-    wanted=0
-    [ ! -f "$name.status" ] || wanted=$(cat "$name.status")
     words=()
     [ ! -f "$name.words" ] || mapfile -t words <"$name.words"
-    compare "$name" "$wanted" "$script" "${words[@]}"
+    compare "$name" "$(status_of "$name")" "$script" "${words[@]}"
+done
+for file in examples/*.index; do
+    name=${file%.index}
+    compare "$name" "$(status_of "$name")" --check "$file"
 done
 exit "$failed"

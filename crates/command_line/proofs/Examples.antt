@@ -1,9 +1,9 @@
 -- The forms of worked words, and laws on malformed words.
 use Rattle.std.proofs.Common.{◌≡◌, ◌∙◌, ℕ, List, [], ◌∷◌, Option, Some, None, true, false, codes, refl, ap}
 use Rattle.clap.proofs.OnLiterals.{clap_on_literals}
-use Rattle.command_line.specs.Forms.{Form, makes, neither, runs}
+use Rattle.command_line.specs.Forms.{Form, makes, checks, neither, runs}
 use Rattle.command_line.specs.Givens.{level_of, make_with, run_with, seed_of}
-use Rattle.command_line.specs.Usage.{IsPlainText, of_script, of_seed}
+use Rattle.command_line.specs.Usage.{IsPlainText, of_script, of_seed, of_check}
 use Rattle.command_line.specs.Words.{form_of, form_read}
 use Rattle.command_line.proofs.Marks.{read_marked}
 use Rattle.command_line.proofs.Usages.{plain_form}
@@ -53,6 +53,22 @@ seed_with_zeros = refl
 greatest_seed : form_of (codes "--make" ∷ codes "18446744073709551615" ∷ []) ≡ makes 18446744073709551615
 unfolding clap_on_literals
 greatest_seed = refl
+
+file_alone : form_of (codes "--check" ∷ codes "f" ∷ []) ≡ checks (codes "f")
+unfolding clap_on_literals
+file_alone = refl
+
+file_named_help : form_of (codes "--check" ∷ codes "help" ∷ []) ≡ checks (codes "help")
+unfolding clap_on_literals
+file_named_help = refl
+
+file_behind_sign : form_of (codes "--check=--check" ∷ []) ≡ checks (codes "--check")
+unfolding clap_on_literals
+file_behind_sign = refl
+
+empty_file_name : form_of (codes "--check" ∷ [] ∷ []) ≡ checks []
+unfolding clap_on_literals
+empty_file_name = refl
 
 -- what clap offers beside the usage line's words
 with_equals_sign : form_of (codes "s" ∷ codes "--graph=g" ∷ []) ≡ run_of (Some (codes "g")) 2
@@ -139,6 +155,42 @@ seed_and_bounded : form_of (codes "--make" ∷ codes "1" ∷ codes "--with-bk" �
 unfolding clap_on_literals
 seed_and_bounded = refl
 
+check_and_graph : form_of (codes "--check" ∷ codes "f" ∷ codes "--graph" ∷ codes "g" ∷ []) ≡ neither
+unfolding clap_on_literals
+check_and_graph = refl
+
+check_and_level : form_of (codes "--k" ∷ codes "2" ∷ codes "--check" ∷ codes "f" ∷ []) ≡ neither
+unfolding clap_on_literals
+check_and_level = refl
+
+check_and_flag : form_of (codes "--check" ∷ codes "f" ∷ codes "--without-one" ∷ []) ≡ neither
+unfolding clap_on_literals
+check_and_flag = refl
+
+check_and_other_flag : form_of (codes "--without-fb" ∷ codes "--check" ∷ codes "f" ∷ []) ≡ neither
+unfolding clap_on_literals
+check_and_other_flag = refl
+
+check_and_bounded : form_of (codes "--check" ∷ codes "f" ∷ codes "--with-bk" ∷ []) ≡ neither
+unfolding clap_on_literals
+check_and_bounded = refl
+
+check_and_bad_seed : form_of (codes "--make" ∷ codes "x" ∷ codes "--check" ∷ codes "f" ∷ []) ≡ neither
+unfolding clap_on_literals
+check_and_bad_seed = refl
+
+check_and_help : form_of (codes "--check" ∷ codes "f" ∷ codes "--help" ∷ []) ≡ neither
+unfolding clap_on_literals
+check_and_help = refl
+
+no_file : form_of (codes "--check" ∷ []) ≡ neither
+unfolding clap_on_literals
+no_file = refl
+
+no_file_but_flag : form_of (codes "--check" ∷ codes "--with-bk" ∷ []) ≡ neither
+unfolding clap_on_literals
+no_file_but_flag = refl
+
 no_script : form_of (codes "--graph" ∷ codes "g" ∷ []) ≡ neither
 unfolding clap_on_literals
 no_script = refl
@@ -178,6 +230,29 @@ no_level s n p q none =
 seed_and_script : (s t : List ℕ) → IsPlainText s → IsPlainText t → form_of (codes "--make" ∷ t ∷ s ∷ []) ≡ neither
 unfolding clap_on_literals
 seed_and_script s t p q = ap form_read (read_marked ((false, codes "--make") ∷ (true, t) ∷ (true, s) ∷ []) (q, (p, tt)))
+
+-- a file to check beside a script, in both orders, or a seed, or another file
+check_and_script : (f s : List ℕ) → IsPlainText f → IsPlainText s → form_of (codes "--check" ∷ f ∷ s ∷ []) ≡ neither
+unfolding clap_on_literals
+check_and_script f s p q = ap form_read (read_marked ((false, codes "--check") ∷ (true, f) ∷ (true, s) ∷ []) (p, (q, tt)))
+
+script_and_check : (s f : List ℕ) → IsPlainText s → IsPlainText f → form_of (s ∷ codes "--check" ∷ f ∷ []) ≡ neither
+unfolding clap_on_literals
+script_and_check s f p q = ap form_read (read_marked ((true, s) ∷ (false, codes "--check") ∷ (true, f) ∷ []) (p, (q, tt)))
+
+seed_and_check : (t f : List ℕ) → IsPlainText t → IsPlainText f → form_of (codes "--make" ∷ t ∷ codes "--check" ∷ f ∷ []) ≡ neither
+unfolding clap_on_literals
+seed_and_check t f p q =
+    ap form_read (read_marked ((false, codes "--make") ∷ (true, t) ∷ (false, codes "--check") ∷ (true, f) ∷ []) (p, (q, tt)))
+
+repeated_check : (f g : List ℕ) → IsPlainText f → IsPlainText g → form_of (codes "--check" ∷ f ∷ codes "--check" ∷ g ∷ []) ≡ neither
+unfolding clap_on_literals
+repeated_check f g p q =
+    ap form_read (read_marked ((false, codes "--check") ∷ (true, f) ∷ (false, codes "--check") ∷ (true, g) ∷ []) (p, (q, tt)))
+
+-- plain words check that file
+checked : (f : List ℕ) → IsPlainText f → form_of (codes "--check" ∷ f ∷ []) ≡ checks f
+checked f p = plain_form (of_check f) p
 
 -- a text that names no seed
 no_seed : (t : List ℕ) → IsPlainText t → seed_of t ≡ None → form_of (codes "--make" ∷ t ∷ []) ≡ neither

@@ -1,4 +1,5 @@
 pub mod NoFlag
+pub mod Levels
 pub mod Marks
 pub mod Seeds
 pub mod Usages

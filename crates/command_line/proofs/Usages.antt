@@ -2,7 +2,7 @@
 use Rattle.std.proofs.Common.{◌≡◌, ℕ, Bool, List, [], ◌∷◌, ◌++◌, Option, Some, None, true, false, codes, ap}
 use Rattle.std.specs.Prelude.{IfSome}
 use Rattle.clap.proofs.OnLiterals.{clap_on_literals}
-use Rattle.command_line.specs.Usage.{HasPlain, HasPlainTexts, IsPlainText, Order, ScriptUsage, Usage, of_script, of_seed, flagless, given_by, given_seed, given_with, words_in, words_of}
+use Rattle.command_line.specs.Usage.{HasPlain, HasPlainTexts, IsPlainText, Order, ScriptUsage, Usage, of_script, of_seed, of_check, flagless, given_by, given_seed, given_check, given_with, words_in, words_of}
 use Rattle.command_line.specs.Usage.{script_level_graph, graph_script_level, graph_level_script, level_script_graph, level_graph_script}
 use Rattle.command_line.specs.Words.{form_of, form_read, read}
 use Rattle.command_line.specs.Givens.{form_given}
@@ -87,10 +87,15 @@ seed_read : (seed : List ℕ) → IsPlainText seed → read (words_of (of_seed s
 unfolding clap_on_literals
 seed_read seed plain = read_marked ((false, codes "--make") ∷ (true, seed) ∷ []) (plain, tt)
 
+check_read : (file : List ℕ) → IsPlainText file → read (words_of (of_check file)) ≡ Some (given_check file)
+unfolding clap_on_literals
+check_read file plain = read_marked ((false, codes "--check") ∷ (true, file) ∷ []) (plain, tt)
+
 -- plain words are taken, with just these texts
 pub plain_read : (u : Usage) → HasPlainTexts u → read (words_of u) ≡ Some (given_by u)
 plain_read (of_script u) plain = plain_by_parts u.script u.graph u.k u.without_one u.without_fb u.with_bk plain.0 plain.1 plain.2
 plain_read (of_seed seed) plain = seed_read seed plain
+plain_read (of_check file) plain = check_read file plain
 
 reordered_by_parts : (o : Order) (s : List ℕ) (g k : Option (List ℕ)) (one fb bk : Bool) → IsPlainText s → IfSome g IsPlainText → IfSome k IsPlainText
     → read (words_in o (used s g k one fb bk)) ≡ Some (given_with (used s g k false false false))

@@ -2,11 +2,11 @@
 use Rattle.std.specs.Prelude.{◌≡◌, ℕ, List, Option, Some, None, Result, IfOk, option_map, true, false}
 use Rattle.clap.specs.Words.{found_of, matches_of, rows_of}
 use Rattle.clap.specs.declared.parser.matches.ArgMatches.{ArgMatches}
-use Rattle.command_line.specs.Forms.{Form, Settings, runs, makes, neither}
+use Rattle.command_line.specs.Forms.{Form, Settings, runs, makes, checks, neither}
 use Rattle.command_line.specs.Givens.{Given, form_given}
 use Rattle.command_line.specs.Words.{command, is_accepted}
 use Rattle.command_line.specs.declared.form.Form.{Form as FormSeen}
-use Rattle.command_line.specs.declared.form.Form.TheVariants.{Run, Make, Neither}
+use Rattle.command_line.specs.declared.form.Form.TheVariants.{Run, Make, Check, Neither}
 use Rattle.command_line.specs.declared.form.Settings.{Settings as SettingsSeen}
 use Rattle.command_line.specs.declared.given.Given.{Given as GivenSeen}
 
@@ -16,6 +16,7 @@ settings_value s = record { script = s.script.now; graph = option_map (λ t. t.n
 abbrev pub form_value : FormSeen → Form
 form_value (Run s) = runs (settings_value s)
 form_value (Make seed) = makes seed
+form_value (Check file) = checks file.now
 form_value Neither = neither
 
 abbrev pub given_value : GivenSeen → Given
@@ -24,6 +25,7 @@ given_value g = record {
   graph = option_map (λ t. t.now) g.graph;
   k = option_map (λ t. t.now) g.k;
   make = option_map (λ t. t.now) g.make;
+  check = option_map (λ t. t.now) g.check;
   without_one = g.without_one;
   without_fb = g.without_fb;
   with_bk = g.with_bk;

@@ -20,6 +20,8 @@ pub data Form : Type 0 where
   runs : Settings → Form
   -- the texts that are made from this seed are run
   makes : ℕ → Form
+  -- the index file of this name is checked
+  checks : List ℕ → Form
   -- the words are malformed
   neither : Form
 
@@ -27,4 +29,5 @@ pub data Form : Type 0 where
 abbrev pub HasLevel : Form → Type 0
 HasLevel (runs s) = s.k ≤ 8
 HasLevel (makes seed) = ⊤
+HasLevel (checks file) = ⊤
 HasLevel neither = ⊤

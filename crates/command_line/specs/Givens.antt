@@ -3,7 +3,7 @@ use Rattle.std.specs.Prelude.{ℕ, ◌-◌, ◌^◌, ◌&&◌, ◌||◌, nat_le,
 use Rattle.std.specs.List.{list_all}
 use Rattle.std.specs.Char.{is_ascii_digit}
 use Rattle.std.specs.Str.Parse.{digits_value}
-use Rattle.command_line.specs.Forms.{Form, runs, makes, neither}
+use Rattle.command_line.specs.Forms.{Form, runs, makes, checks, neither}
 
 -- the text of each argument, if it is there, and which flags are
 pub record Given : Type 0 where
@@ -11,6 +11,7 @@ pub record Given : Type 0 where
   pub graph : Option (List ℕ)
   pub k : Option (List ℕ)
   pub make : Option (List ℕ)
+  pub check : Option (List ℕ)
   pub without_one : Bool
   pub without_fb : Bool
   pub with_bk : Bool
@@ -41,7 +42,7 @@ is_numeral text = nat_le 1 (length text) && nat_le (length text) 20 && list_all 
 abbrev pub seed_of : List ℕ → Option ℕ
 seed_of text = if is_numeral text && nat_lt (digits_value 10 text) (2 ^ 64) then Some (digits_value 10 text) else None
 
--- something other than a seed is given
+-- something other than a seed and a file to check is given
 abbrev pub has_others : Given → Bool
 has_others g = is_some g.script || is_some g.graph || is_some g.k || g.without_one || g.without_fb || g.with_bk
 
@@ -55,5 +56,10 @@ abbrev pub form_with : Option (List ℕ) → Given → Form
 form_with None g = run_with g.script g.graph (level_or_default g.k) g.without_one g.without_fb g.with_bk
 form_with (Some text) g = if has_others g then neither else make_with (seed_of text)
 
+-- a file to check alone, or else what the rest gives
+abbrev pub form_beside : Option (List ℕ) → Given → Form
+form_beside None g = form_with g.make g
+form_beside (Some file) g = if is_some g.make || has_others g then neither else checks file
+
 abbrev pub form_given : Given → Form
-form_given g = form_with g.make g
+form_given g = form_beside g.check g

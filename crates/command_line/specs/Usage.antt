@@ -11,10 +11,11 @@ pub record ScriptUsage : Type 0 where
   pub without_fb : Bool
   pub with_bk : Bool
 
--- one alternative of the usage line: a script, or --make SEED
+-- one alternative of the usage line: a script, --make SEED, or --check FILE
 pub data Usage : Type 0 where
   of_script : ScriptUsage → Usage
   of_seed : List ℕ → Usage
+  of_check : List ℕ → Usage
 
 -- an option and its text
 abbrev pub option_words : List ℕ → Option (List ℕ) → List (List ℕ)
@@ -48,6 +49,7 @@ bk_words u = flag_words (codes "--with-bk") u.with_bk
 abbrev pub words_of : Usage → List (List ℕ)
 words_of (of_script u) = script_words u ++ (graph_words u ++ (level_words u ++ (one_words u ++ (fb_words u ++ bk_words u))))
 words_of (of_seed seed) = codes "--make" ∷ seed ∷ []
+words_of (of_check file) = codes "--check" ∷ file ∷ []
 
 -- the other orders of a script's words without flags
 pub data Order : Type 0 where
@@ -66,15 +68,42 @@ words_in level_graph_script u = level_words u ++ (graph_words u ++ script_words 
 
 -- just these texts and flags
 abbrev pub given_with : ScriptUsage → Given
-given_with u = record { script = Some u.script; graph = u.graph; k = u.k; make = None; without_one = u.without_one; without_fb = u.without_fb; with_bk = u.with_bk }
+given_with u = record {
+  script = Some u.script;
+  graph = u.graph;
+  k = u.k;
+  make = None;
+  check = None;
+  without_one = u.without_one;
+  without_fb = u.without_fb;
+  with_bk = u.with_bk;
+}
+
+-- nothing
+abbrev pub nothing_given : Given
+nothing_given = record {
+  script = None;
+  graph = None;
+  k = None;
+  make = None;
+  check = None;
+  without_one = false;
+  without_fb = false;
+  with_bk = false;
+}
 
 -- just this seed
 abbrev pub given_seed : List ℕ → Given
-given_seed seed = record { script = None; graph = None; k = None; make = Some seed; without_one = false; without_fb = false; with_bk = false }
+given_seed seed = record nothing_given { make = Some seed }
+
+-- just this file to check
+abbrev pub given_check : List ℕ → Given
+given_check file = record nothing_given { check = Some file }
 
 abbrev pub given_by : Usage → Given
 given_by (of_script u) = given_with u
 given_by (of_seed seed) = given_seed seed
+given_by (of_check file) = given_check file
 
 -- the texts without the flags
 abbrev pub flagless : ScriptUsage → ScriptUsage
@@ -95,3 +124,4 @@ HasPlain u = IsPlainText u.script × IfSome u.graph IsPlainText × IfSome u.k Is
 abbrev pub HasPlainTexts : Usage → Type 0
 HasPlainTexts (of_script u) = HasPlain u
 HasPlainTexts (of_seed seed) = IsPlainText seed
+HasPlainTexts (of_check file) = IsPlainText file

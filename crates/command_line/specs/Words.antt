@@ -24,13 +24,13 @@ bare = on_top (λ s. record s { no_binary_name = true }) (new_app (codes "pathin
 abbrev pub texts : App
 texts = with_rule (with_rule (with_rule bare (new_rule (codes "script"))) (option_rule (codes "graph"))) (option_rule (codes "k"))
 
--- the option --make too
-abbrev pub seeded : App
-seeded = with_rule texts (option_rule (codes "make"))
+-- the options --make and --check too
+abbrev pub options : App
+options = with_rule (with_rule texts (option_rule (codes "make"))) (option_rule (codes "check"))
 
 -- and three flags
 abbrev pub command : App
-command = with_rule (with_rule (with_rule seeded (flag_rule (codes "without-one"))) (flag_rule (codes "without-fb"))) (flag_rule (codes "with-bk"))
+command = with_rule (with_rule (with_rule options (flag_rule (codes "without-one"))) (flag_rule (codes "without-fb"))) (flag_rule (codes "with-bk"))
 
 abbrev pub is_no_fault : Kinds → Bool
 is_no_fault [] = true
@@ -52,6 +52,7 @@ given_in rows = record {
   graph = first_of (codes "graph") rows;
   k = first_of (codes "k") rows;
   make = first_of (codes "make") rows;
+  check = first_of (codes "check") rows;
   without_one = is_set (first_of (codes "without-one") rows);
   without_fb = is_set (first_of (codes "without-fb") rows);
   with_bk = is_set (first_of (codes "with-bk") rows);

@@ -3,7 +3,7 @@ ghost use Rattle.std.specs.Prelude.{◌≡◌, IfOk, None, Some, false, map, opt
 ghost use Rattle.std.specs.Char.{is_ascii_digit};
 ghost use Rattle.std.specs.List.{list_all};
 ghost use Rattle.command_line.specs.Forms.{neither, HasLevel};
-ghost use Rattle.command_line.specs.Givens.{form_given, form_with, level_or_default as level_given, level_of as level_in};
+ghost use Rattle.command_line.specs.Givens.{form_beside, form_given, form_with, level_or_default as level_given, level_of as level_in};
 ghost use Rattle.command_line.specs.Givens.{has_others as others_given, is_numeral as numeral_given, seed_of as seed_given};
 ghost use Rattle.command_line.specs.Words.{form_of as form_said, form_read, is_accepted};
 ghost use Rattle.command_line.specs.FormValues.{form_value, given_value, IsReadAs};
@@ -43,6 +43,8 @@ pub enum Form<'a> {
     Run(Settings<'a>),
     /// The texts that are made from this seed are run.
     Make(u64),
+    /// The index file of this name is checked.
+    Check(&'a str),
     /// The words are malformed.
     Neither,
 }
@@ -112,7 +114,7 @@ fn seed_of(text: &str) -> Option<u64>
     }
 }
 
-// Whether anything other than a seed is given.
+// Whether anything other than a seed and a file to check is given.
 fn has_others(given: &Given) -> bool
     ensures { result ≡ others_given (given_value given.now) }
 {
@@ -136,12 +138,30 @@ fn make_with<'a>(given: &Given<'a>, text: &str) -> Form<'a>
     }
 }
 
-fn form_of<'a>(given: &Given<'a>) -> Form<'a>
-    ensures { form_value result ≡ form_given (given_value given.now) }
+fn make_or_run<'a>(given: &Given<'a>) -> Form<'a>
+    ensures { form_value result ≡ form_beside None (given_value given.now) }
 {
     match given.make {
         Some(text) => make_with(given, text),
         None => run_with(given),
+    }
+}
+
+fn check_with<'a>(given: &Given<'a>, file: &'a str) -> Form<'a>
+    ensures { form_value result ≡ form_beside (Some file.now) (given_value given.now) }
+{
+    if given.make.is_some() || has_others(given) {
+        return Form::Neither;
+    }
+    Form::Check(file)
+}
+
+fn form_of<'a>(given: &Given<'a>) -> Form<'a>
+    ensures { form_value result ≡ form_given (given_value given.now) }
+{
+    match given.check {
+        Some(file) => check_with(given, file),
+        None => make_or_run(given),
     }
 }
 
@@ -155,10 +175,10 @@ fn judge<'a>(given: Option<Given<'a>>) -> Form<'a>
 }
 
 /// What the words after the program's name ask for:
-/// `SCRIPT [--graph FILE] [--k N] [--without-one] [--without-fb] [--with-bk]`, where N is one of the words `0` to `8`, and 2 where the option isn't there; or `--make SEED`, where SEED is 1 to 20
-/// decimal digits of a number below 2^64. The words are those that `clap` reads for this command. Whatever it refuses
-/// is malformed, and so is a call for help. O(b) for words of b bytes; it takes memory for `clap`'s table of the options and
-/// for what it reads into it.
+/// `SCRIPT [--graph FILE] [--k N] [--without-one] [--without-fb] [--with-bk]`, where N is one of the words `0` to `8`, and 2 where the option
+/// isn't there; `--make SEED`, where SEED is 1 to 20 decimal digits of a number below 2^64; or `--check FILE`. The words are those that
+/// `clap` reads for this command. Whatever it refuses is malformed, and so is a call for help. O(b) for words of b bytes; it takes memory
+/// for `clap`'s table of the options and for what it reads into it.
 pub fn read_words<'a>(alloc: Global, words: &'a [String]) -> Result<Form<'a>, Memory>
     ensures exact { IfOk result (λ f. form_value f ≡ form_said (map string_bytes words.entry.now)) }
     // The words of the usage line, with texts that aren't empty and don't begin with a hyphen, give those texts.

@@ -1,7 +1,7 @@
 // What clap is told of the command line.
 ghost use Rattle.std.specs.Prelude.{◌≡◌, IfOk, codes, false};
 ghost use Rattle.clap.specs.Words.{app_of, new_rule, rule_of, with_rule};
-ghost use Rattle.command_line.specs.Words.{bare, command, flag_rule, option_rule, seeded, texts};
+ghost use Rattle.command_line.specs.Words.{bare, command, flag_rule, option_rule, options, texts};
 
 use clap::{Arg, ArgAction, Command};
 use std::alloc::{AllocError, Global};
@@ -41,18 +41,20 @@ fn text_command<'a>(alloc: Global) -> Result<Command<'a>, AllocError>
         .arg(text_option(alloc, "k"))
 }
 
-// The option that names a seed too.
-fn seed_command<'a>(alloc: Global) -> Result<Command<'a>, AllocError>
-    ensures { IfOk result (λ c. app_of c ≡ seeded) }
+// The options that name a seed and a file to check too.
+fn option_command<'a>(alloc: Global) -> Result<Command<'a>, AllocError>
+    ensures { IfOk result (λ c. app_of c ≡ options) }
 {
-    text_command(alloc)?.arg(text_option(alloc, "make"))
+    text_command(alloc)?
+        .arg(text_option(alloc, "make"))?
+        .arg(text_option(alloc, "check"))
 }
 
 // The whole command. Neither its script nor an option is required, and no rule ties them together.
 pub(crate) fn make_command<'a>(alloc: Global) -> Result<Command<'a>, AllocError>
     ensures { IfOk result (λ c. app_of c ≡ command) }
 {
-    seed_command(alloc)?
+    option_command(alloc)?
         .arg(flag(alloc, "without-one"))?
         .arg(flag(alloc, "without-fb"))?
         .arg(flag(alloc, "with-bk"))

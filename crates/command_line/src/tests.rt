@@ -51,6 +51,7 @@ fn plain_words_name_a_script(rt: HostRuntime) -> Result<(), Fail> {
         ),
         ("s --with-bk --k 2", run_flagged(false, false, true)),
         ("--make 7", Form::Make(7)),
+        ("--check f", Form::Check("f")),
     ];
     for (line, form) in rows {
         assert!(rt; is_read_as(rt.alloc(), line, form)?, "at {line}");
@@ -66,6 +67,8 @@ fn other_words_are_malformed(rt: HostRuntime) -> Result<(), Fail> {
         "s t",
         "--make 1 s",
         "--make 99999999999999999999",
+        "--check f s",
+        "--make 1 --check f",
     ] {
         assert!(rt; is_read_as(rt.alloc(), line, Form::Neither)?, "at {line}");
     }

@@ -29,6 +29,7 @@ alone_begin rules s _ _ _ _ (runs.explains _ _ _ _ _) e = omega (arith, e)
 alone_begin rules s _ _ _ _ (runs.checks _ _ _ _) e = omega (arith, e)
 alone_begin rules s _ _ _ _ (runs.lists _ _ _ _) e = omega (arith, e)
 alone_begin rules s _ _ _ _ (runs.measures _ _) e = omega (arith, e)
+alone_begin rules s _ _ _ _ (runs.saves _ _) e = omega (arith, e)
 alone_begin rules s _ _ _ _ (runs.forgets _ _) e = omega (arith, e)
 alone_begin rules s _ _ _ _ (runs.lacks _ _) e = omega (arith, e)
 

@@ -1,6 +1,6 @@
 // The top call.
-ghost use Rattle.std.specs.Prelude.{ℕ, List, ◌≡◌, ◌≢◌, ◌≤◌, ◌⊎◌, map, string_bytes, option_map, None, Some, IfOk};
-ghost use Rattle.command_line.specs.Forms.{makes, runs};
+ghost use Rattle.std.specs.Prelude.{ℕ, List, [], ◌≡◌, ◌≢◌, ◌≤◌, ◌⊎◌, map, string_bytes, option_map, None, Some, IfOk};
+ghost use Rattle.command_line.specs.Forms.{checks, makes, runs};
 ghost use Rattle.command_line.specs.FormValues.{settings_value};
 ghost use Rattle.command_line.specs.Words.{form_of};
 ghost use Rattle.bisim_spec.specs.declared.kind.Kind.{Kind};
@@ -10,10 +10,11 @@ ghost use Rattle.index_api.specs.IndexKinds.{kinds_of};
 ghost use Rattle.pathindex_core.specs.Engines.{IsSound, by_meaning};
 ghost use Rattle.script_interpreter.specs.EngineStates.{state_of, IsOpen, IsIn};
 ghost use Rattle.script_interpreter.specs.States.{BeginsRun, left_out};
-ghost use Rattle.pathindex_run.specs.Headline.{RunsForm, HasStatus, Completes, NamesScript, NoFault, kinds_for};
+ghost use Rattle.pathindex_run.specs.Headline.{RunsForm, HasStatus, ChecksWhole, Completes, NamesFile, NoFault, kinds_for};
 ghost use Rattle.pathindex_run.specs.StatusCodes.{code_of};
 ghost use Rattle.pathindex_run.specs.ObservableFiles.{BeginsObservable};
 
+use crate::check::run_check;
 use crate::made::run_made;
 use crate::output::{show_refusal, show_usage};
 use crate::status::{Status, status_of};
@@ -28,31 +29,38 @@ use std::alloc::Global;
 use triple_names::Names;
 
 /// Carries out what the words ask for, and answers the exit status. The words are those after the
-/// program's name: `SCRIPT [--graph FILE] [--k N] [--without-one] [--without-fb] [--with-bk]`, or `--make SEED`.
+/// program's name: `SCRIPT [--graph FILE] [--k N] [--without-one] [--without-fb] [--with-bk]`, `--make SEED`, or `--check FILE`.
 ///
 /// The graph file, if one is named, is loaded first; it is RDF 1.1 N-Triples. The engine drops the indexes that a
-/// flag leaves out, and the bounded forward and backward ones unless a flag asks for them, and builds the others. Then the script's lines are read from the shelf, and what they print is
-/// written to the sink.
+/// flag leaves out, and the bounded forward and backward ones unless a flag asks for them, and builds the others. Then
+/// the script's lines are read from the shelf, and what they print is written to the sink.
 ///
 /// With a seed, from 0 to 2^64 - 1, a graph file and a script are made from it and used instead of files: the engine keeps
 /// all its indexes but those, k is 2, and the shelf isn't called. Changes that are accepted and indexes that are forgotten print nothing
 /// then, and an answer prints its first line only.
 ///
+/// To check a file, the engine drops all its indexes and stays closed. The index file is read, and each of its views is
+/// compared with the graph that it holds.
+///
 /// | Status | When |
 /// |---|---|
 /// | 0, 1 | the script was read to its end; 1 if a line printed `refused` |
+/// | 0 | each view of the index file fits, and `fits` is written |
 /// | 2 | the words are malformed, and the usage line is written |
-/// | 3 | a line of the graph file is refused, and `graph` with its number and the reason is written |
+/// | 3 | a line of the graph file or of the index file is refused, and `graph` or `index` with its number and the reason is written |
 /// | 4 | a line is no command or passes a limit, and `bad` with its number is written |
 /// | 5 | a call of the shelf failed, or a file isn't there; never with a seed |
 /// | 6 | a call of the sink failed |
 /// | 7 | memory runs out |
+/// | 8 | a view of the index file doesn't fit, and `view` with the index of the first such view is written |
 ///
 /// If the shelf is observable, the graph file loads, no line of the script is bad, no call fails and neither count of
 /// failed calls is full, the status is 0, 1 or 7. With a seed it is so if no write fails and the sink's count isn't
-/// full. At 5, 6 and 7 a prefix of what the run prints is written. O(b) for b bytes of both files, and what opening the
-/// engine and the commands cost (`Engine`); beside the engine it takes memory for the numbers of terms and triples
-/// (`Names`), a block of the script, its longest line, and what is gathered of the output.
+/// full. If an observable shelf has the index file, it is spelled and within limits, no call fails and neither count is
+/// full, the status is 0, 8 or 7. At 5, 6 and 7 a prefix of what the run prints is written. O(b) for b bytes of both
+/// files, and what opening the engine and the commands cost (`Engine`); beside the engine it takes memory for the numbers
+/// of terms and triples (`Names`), a block of the script, its longest line, and what is gathered of the output. A check
+/// costs what `index_file::read` costs, and `index_check::fits` for each view.
 pub fn run<B: PathIndex, H: Shelf, K: Sink>(
     alloc: Global,
     words: &[String],
@@ -69,10 +77,14 @@ pub fn run<B: PathIndex, H: Shelf, K: Sink>(
         (K.faults sink.old) (K.faults sink.new) result }
     ensures complete { Completes (form_of (map string_bytes words.now)) (H.files shelf.old) (H.faults shelf.old) (H.faults shelf.new)
         (K.faults sink.old) (K.faults sink.new) result }
+    ensures checked { ChecksWhole (form_of (map string_bytes words.now)) (H.files shelf.old) (H.faults shelf.old) (H.faults shelf.new)
+        (K.faults sink.old) (K.faults sink.new) result }
+    ensures dropped { (file : List ℕ) → form_of (map string_bytes words.now) ≡ checks file → result ≢ 7
+        → kinds_of (map B.meaning engine.new.boxes) ≡ [] }
     ensures made { (seed : ℕ) → form_of (map string_bytes words.now) ≡ makes seed → NoFault (K.faults sink.old) (K.faults sink.new)
         → (result ≤ 1) ⊎ (result ≡ 7) }
     ensures files { H.files shelf.new ≡ H.files shelf.old }
-    ensures idle { ¬ NamesScript (form_of (map string_bytes words.now)) → shelf.new ≡ shelf.old }
+    ensures idle { ¬ NamesFile (form_of (map string_bytes words.now)) → shelf.new ≡ shelf.old }
 {
     let status = run_words(alloc, words, engine, shelf, sink);
     status.code()
@@ -95,14 +107,19 @@ fn run_words<B: PathIndex, H: Shelf, K: Sink>(
         (K.faults sink.old) (K.faults sink.new) (code_of result) }
     ensures complete { Completes (form_of (map string_bytes words.now)) (H.files shelf.old) (H.faults shelf.old) (H.faults shelf.new)
         (K.faults sink.old) (K.faults sink.new) (code_of result) }
+    ensures checked { ChecksWhole (form_of (map string_bytes words.now)) (H.files shelf.old) (H.faults shelf.old) (H.faults shelf.new)
+        (K.faults sink.old) (K.faults sink.new) (code_of result) }
+    ensures dropped { (file : List ℕ) → form_of (map string_bytes words.now) ≡ checks file → code_of result ≢ 7
+        → kinds_of (map B.meaning engine.new.boxes) ≡ [] }
     ensures made { (seed : ℕ) → form_of (map string_bytes words.now) ≡ makes seed → NoFault (K.faults sink.old) (K.faults sink.new)
         → (code_of result ≤ 1) ⊎ (code_of result ≡ 7) }
     ensures files { H.files shelf.new ≡ H.files shelf.old }
-    ensures idle { ¬ NamesScript (form_of (map string_bytes words.now)) → shelf.new ≡ shelf.old }
+    ensures idle { ¬ NamesFile (form_of (map string_bytes words.now)) → shelf.new ≡ shelf.old }
 {
     match read_words(alloc, words) {
         Ok(Form::Run(settings)) => run_settings(alloc, &settings, engine, shelf, sink),
         Ok(Form::Make(seed)) => run_made(alloc, seed, engine, sink),
+        Ok(Form::Check(file)) => run_check(alloc, file, engine, shelf, sink),
         Ok(Form::Neither) => show_usage(sink),
         Err(_) => Status::NoMemory,
     }
@@ -171,8 +188,8 @@ fn run_loaded<B: PathIndex, H: Shelf, K: Sink>(
 {
     match load_named(alloc, shelf, name, &Limits::program()) {
         Ok((graph, names)) => run_script(alloc, settings, graph, names, engine, shelf, sink),
-        Err(LoadError::Syntax(line)) => show_refusal(alloc, line, "syntax", sink),
-        Err(LoadError::Limit(line)) => show_refusal(alloc, line, "limit", sink),
+        Err(LoadError::Syntax(line)) => show_refusal(alloc, "graph ", line, "syntax", sink),
+        Err(LoadError::Limit(line)) => show_refusal(alloc, "graph ", line, "limit", sink),
         Err(LoadError::Missing) => Status::NoFile,
         Err(LoadError::Fault) => Status::NoFile,
         Err(LoadError::Memory) => Status::NoMemory,

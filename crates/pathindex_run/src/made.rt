@@ -56,8 +56,8 @@ pub(crate) fn run_made<B: PathIndex, K: Sink>(
 {
     match load_made(alloc, seed) {
         Ok((graph, names)) => run_script(alloc, seed, graph, names, engine, sink),
-        Err(LoadError::Syntax(line)) => show_refusal(alloc, line, "syntax", sink),
-        Err(LoadError::Limit(line)) => show_refusal(alloc, line, "limit", sink),
+        Err(LoadError::Syntax(line)) => show_refusal(alloc, "graph ", line, "syntax", sink),
+        Err(LoadError::Limit(line)) => show_refusal(alloc, "graph ", line, "limit", sink),
         Err(LoadError::Missing) => unreachable!(),
         Err(LoadError::Fault) => unreachable!(),
         Err(LoadError::Memory) => Status::NoMemory,

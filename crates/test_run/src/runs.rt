@@ -11,12 +11,12 @@ use std::test::Fail;
 /// What a run is given: its words, the files `s` and `g` where they are there, the number of the one call on the
 /// shelf and of the one on the sink that fails, 0 for none, and whether the engine has all indexes, or an `AkIndex` alone.
 #[derive(Clone, Copy)]
-struct Given<'a> {
-    words: &'a [&'a str],
-    script: Option<&'a str>,
-    graph: Option<&'a str>,
-    failing: (u32, u32),
-    has_all: bool,
+pub(crate) struct Given<'a> {
+    pub(crate) words: &'a [&'a str],
+    pub(crate) script: Option<&'a str>,
+    pub(crate) graph: Option<&'a str>,
+    pub(crate) failing: (u32, u32),
+    pub(crate) has_all: bool,
 }
 
 fn named(alloc: Global, words: &[&str]) -> Result<Vec<String>, Memory> {
@@ -90,7 +90,7 @@ fn sink_of(alloc: Global, failing: u32) -> Result<MemSink, Memory> {
 }
 
 /// Whether the run ends so.
-fn ends(alloc: Global, given: Given<'_>, output: &str, status: u8) -> bool {
+pub(crate) fn ends(alloc: Global, given: Given<'_>, output: &str, status: u8) -> bool {
     match sink_of(alloc, given.failing.1) {
         Ok(mut sink) => match ends_over(alloc, given, &mut sink, output, status) {
             Ok(right) => right,
@@ -322,7 +322,7 @@ fn long_groups_are_refused(rt: HostRuntime) {
 }
 
 const USAGE: &str =
-    "usage: pathindex SCRIPT [--graph FILE] [--k N] [--without-one] [--without-fb] [--with-bk] | pathindex --make SEED\n";
+    "usage: pathindex SCRIPT [--graph FILE] [--k N] [--without-one] [--without-fb] [--with-bk] | pathindex --make SEED | pathindex --check FILE\n";
 
 /// Words, a script, what it writes, and the status.
 const WORDS: &[(&[&str], &str, &str, u8)] = &[
@@ -330,6 +330,9 @@ const WORDS: &[(&[&str], &str, &str, u8)] = &[
     (&["--k", "9", "s"], "node a\n", USAGE, 2),
     (&["s", "--make", "1"], "node a\n", USAGE, 2),
     (&["--make", "x"], "node a\n", USAGE, 2),
+    (&["--check", "g", "s"], "node a\n", USAGE, 2),
+    (&["--make", "1", "--check", "g"], "node a\n", USAGE, 2),
+    (&["s", "--check"], "node a\n", USAGE, 2),
     (&["s", "--k", "1"], "node a\n", "added n0\n", 0),
     (
         &["s", "--k", "3"],
@@ -493,6 +496,27 @@ fn deletes_reach_the_one_index(rt: HostRuntime) {
     let output =
         "ok\nnodes 20 edges 22\na0 blocks 7 edges 9\none blocks 9 edges 9\nanswers 3 candidates 3 exact\nn4 n9 n15\n";
     assert!(rt; ends(rt.alloc(), nameless, output, 0));
+}
+
+#[test]
+fn an_index_file_is_printed(rt: HostRuntime) {
+    let all = Given {
+        has_all: true,
+        ..script("node a\nnode b\nlink n0 n1\nnode a\nsave\n")
+    };
+    let output =
+        "added n0\nadded n1\nok\nadded n2\npathindex 1\ngiven 3 k 2\nlive a\nlive b\nlive a\nedges 1\n0 1\nviews 5\n\
+        view a0\n0\n1\n0\nview a1\n0\n1\n0\nview a2\n0\n1\n0\nview one\n0\n1\n0\nview fb\n0\n1\n2\n";
+    assert!(rt; ends(rt.alloc(), all, output, 0));
+    let none = Given {
+        words: &["s", "--k", "8"],
+        ..script("forget a\nnode a\nsave\ndrop n0\nsave\n")
+    };
+    let empty = "ok\nadded n0\npathindex 1\ngiven 1 k 8\nlive a\nedges 0\nviews 0\n\
+        ok\npathindex 1\ngiven 1 k 8\ngone\nedges 0\nviews 0\n";
+    assert!(rt; ends(rt.alloc(), none, empty, 0));
+    let in_group = script("begin\nsave\nend\n");
+    assert!(rt; ends(rt.alloc(), in_group, "bad 2\n", 4));
 }
 
 #[test]

@@ -1,6 +1,8 @@
-use Rattle.std.proofs.Common.{◌≡◌, ◌∙◌, ap, map, string_bytes, rules}
-use Rattle.command_line.specs.FormValues.{form_value}
+use Rattle.std.proofs.Common.{◌≡◌, ◌∙◌, ap, sym, subst, map, option_map, string_bytes, rules}
+use Rattle.command_line.specs.Forms.{HasLevel}
+use Rattle.command_line.specs.FormValues.{form_value, given_value}
 use Rattle.command_line.specs.Words.{form_of}
+use Rattle.command_line.proofs.Levels.{read_level}
 use Rattle.command_line.proofs.Usages.{plain_form, reordered_form}
 use Rattle.command_line.proofs.form.read_words.Goals as goal
 
@@ -13,3 +15,6 @@ pub returns-clause-reordered : goal.returns-clause-reordered
 returns-clause-reordered c u o is plain =
     let exact : form_value c.judge.result ≡ form_of (map string_bytes c.args.words.now) = search rules in
     exact ∙ ap form_of is ∙ reordered_form o u plain
+
+pub returns-clause-level : goal.returns-clause-level
+returns-clause-level c = subst HasLevel (sym c.judge.ensures) (read_level (option_map given_value c.in_ok-given.given))

@@ -47,8 +47,11 @@ returns-in-Ok-false-clause-status g c =
     let same : g.H.Shelf.faults c.open.new.self ≡ g.H.Shelf.faults c.args.shelf.now = search rules in
     record {
       is_one = omega arith;
+      some_refused = λ _. tt;
+      bad_line = λ _. tt;
       usage = λ e. absurd (omega (arith, e));
-      graph = λ e. absurd (omega (arith, e));
+      refused = λ e. absurd (omega (arith, e));
+      differs = λ e. absurd (omega (arith, e));
       reads = λ _. tt;
       missing = λ _. inr (script_missing (settings_value c.args.settings.now) (g.H.Shelf.files c.args.shelf.now) (state_in (by_meaning g.B.PathIndex.meaning c.args.engine.now) c.args.names.names).graph c.args.names.names (g.H.Shelf.left c.open.new.self) c.requires.begins found);
       sink = λ e. absurd (omega (arith, e));
