@@ -22,7 +22,7 @@ help:
 	@echo 'make test              the gate: each proof, each edit that must be refused, each test, program and example'
 	@echo 'make try SCRIPT=FILE   run a script without proving anything, for a first look; GRAPH=FILE names a graph file'
 	@echo 'make library           prove and build bin/libpathindex.a and bin/libpathindex.so, for C, C++ and Python'
-	@echo 'make bench             measure bin/pathindex on generated scripts and graph files, and example_count beside serdi'
+	@echo 'make bench             measure bin/pathindex on generated scripts and graph files, beside C++ and serdi'
 
 run:
 	@$(NEEDS_RT)
@@ -47,6 +47,10 @@ test:
 	@$(NEEDS_RT)
 	rt ci
 	tools/compare_examples.sh $(PROGRAM)/out/pathindex_main
+	@mkdir -p bin
+	@if command -v cc >/dev/null && command -v ld >/dev/null && command -v objcopy >/dev/null; then \
+		tools/build_archive.sh $(LIBRARY)/out/libpathindex_c.a && tools/build_library.sh $(LIBRARY)/out/libpathindex_c.a $(HEAP) bin && tools/test_library.sh; \
+	else echo "make test: the library isn't tested, since cc, ld or objcopy is missing; apt-get install gcc binutils brings them"; fi
 
 library:
 	@$(NEEDS_RT)
@@ -68,12 +72,14 @@ try:
 bench:
 	@command -v python3 >/dev/null || { echo "make bench: python3 isn't on the path" >&2; exit 1; }
 	@test -x bin/pathindex || { echo 'make bench: bin/pathindex is missing; make run builds it' >&2; exit 1; }
+	@python3 tools/bench_beside.py
 	@python3 tools/bench.py
 	@python3 tools/bench_indexes.py
 	@python3 tools/bench_updates.py
 	@python3 tools/bench_groups.py
 	@python3 tools/bench_edits.py
 	@python3 tools/bench_walks.py
+	@python3 tools/bench_files.py
 	@if test -f bin/libpathindex.a; then python3 tools/bench_library.py; else echo 'make bench: bin/libpathindex.a is missing, so the library is not measured; make library builds it'; fi
 	@command -v serdi >/dev/null || { echo "make bench: serdi isn't on the path, so example_count has nothing to stand beside; apt-get install serdi brings it" >&2; exit 1; }
 	@test -x $(COUNTER)/out/example_count || { echo 'make bench: example_count is missing; make test builds it' >&2; exit 1; }

@@ -1,0 +1,90 @@
+#!/usr/bin/env python3
+"""Has bin/pathindex save generated graphs with all their indexes as index files, and check these files, and prints what that takes. The
+gate doesn't run this.
+
+    bench_files.py [PROGRAM]
+
+PROGRAM is run in place of bin/pathindex. Times are processor times, the best of some turns. That of a save is less that of a run that
+computes the same indexes. A check is a whole process; what it takes to read the file alone is that of a check of the same file without
+views.
+"""
+import os
+import pathlib
+import subprocess
+import sys
+import tempfile
+
+ROOT = pathlib.Path(__file__).resolve().parent.parent
+MAKE = ROOT / "tools" / "make_triples.py"
+# shape, triples and turns
+CASES = [("dag", 200_000, 5), ("cyclic", 200_000, 5), ("deep", 200_000, 5), ("dag", 1_600_000, 2)]
+
+
+def run(command, output=subprocess.DEVNULL):
+    """The processor seconds that the command takes, and its peak megabytes of memory."""
+    child = subprocess.Popen(command, stdout=output)
+    _, status, usage = os.wait4(child.pid, 0)
+    child.returncode = os.waitstatus_to_exitcode(status)
+    if child.returncode != 0:
+        sys.exit(f"bench_files.py: {command} ended with the status {child.returncode}")
+    return usage.ru_utime + usage.ru_stime, usage.ru_maxrss * 1024 / 1e6
+
+
+def best_of(commands, turns):
+    """Of each command by its name the least seconds, and the most megabytes. They are run in turns."""
+    taken = {name: [] for name in commands}
+    for _ in range(turns):
+        for name, command in commands.items():
+            taken[name].append(run(command))
+    return {name: (min(s for s, _ in runs), max(m for _, m in runs)) for name, runs in taken.items()}
+
+
+def without_views(file, to):
+    """Writes the file's graph alone."""
+    with open(file, "rb") as lines, open(to, "wb") as out:
+        for line in lines:
+            if line.startswith(b"views "):
+                out.write(b"views 0\n")
+                return
+            out.write(line)
+
+
+def measure(program, folder, kind, count, turns):
+    place = lambda name: os.path.join(folder, name)
+    graph, file, bare = place("graph.nt"), place("file"), place("bare")
+    with open(graph, "wb") as out:
+        subprocess.run([sys.executable, MAKE, str(count), "1", kind], stdout=out, check=True)
+    with open(file, "wb") as out:
+        run([program, place("save"), "--graph", graph], out)
+    without_views(file, bare)
+    taken = best_of({
+        "builds": [program, place("builds"), "--graph", graph],
+        "save": [program, place("save"), "--graph", graph],
+        "check": [program, "--check", file],
+        "read": [program, "--check", bare],
+    }, turns)
+    size, read = os.path.getsize(file) / 1e6, os.path.getsize(bare) / 1e6
+    save = taken["save"][0] - taken["builds"][0]
+    print(f"{kind}, {count:,} triples: an index file of {size:.1f} MB")
+    print(f"    save     {save:>8.2f} s, {size / save:.0f} MB a second, {taken['save'][1] - taken['builds'][1]:.0f} MB more")
+    print(f"    read     {taken['read'][0]:>8.2f} s, {read / taken['read'][0]:.0f} MB a second of the graph's lines, {taken['read'][1]:.0f} MB")
+    print(f"    --check  {taken['check'][0]:>8.2f} s, {taken['check'][1]:.0f} MB", flush=True)
+
+
+def main():
+    if len(sys.argv) > 2:
+        sys.exit(__doc__)
+    program = pathlib.Path(sys.argv[1]).resolve() if len(sys.argv) == 2 else ROOT / "bin" / "pathindex"
+    if not os.access(program, os.X_OK):
+        sys.exit(f"bench_files.py: {program} is missing; make run builds bin/pathindex")
+    with tempfile.TemporaryDirectory() as folder:
+        # a query through the forward and backward index has it computed
+        for name, line in (("save", "save"), ("builds", "path fb none")):
+            with open(os.path.join(folder, name), "w") as out:
+                out.write(f"{line}\n")
+        for case in CASES:
+            measure(program, folder, *case)
+
+
+if __name__ == "__main__":
+    main()
