@@ -200,11 +200,6 @@ lacks_obeyed n kind e f old new a h g = record {
     same : f ≡ e
     same i = record { boxes = (a.boxes ∙ all_left kind e.boxes h) i; opened = a.opened i }
 
--- what was forgotten was kept
-pub kept_kind : {T E : Type 0} (b : Bool) (x : T) (e : E) → (Ok x ≡ Err e) ↔ (b ≡ false) → b ≡ true
-kept_kind true x e h = refl
-kept_kind false x e h = absurd (no_refusal x e h.1 refl)
-
 -- the list of the graph itself is refused
 pub data_obeyed : (n : Names) (e : EngineSeen) (via : Via) (old new : Gathered) → via ≡ Data → new ≡ with_printed old (refused_line NoIndex) true
     → Obeyed (state_in e n) (extents via) old (state_in e n) new

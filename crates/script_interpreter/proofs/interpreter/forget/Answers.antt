@@ -1,6 +1,7 @@
 use Rattle.std.proofs.Common.{rules, ap, Err}
 use Rattle.std.proofs.lemmas.Result.{on_ok_weaker}
-use Rattle.script_interpreter.proofs.EngineCalls.{open_forgotten, forget_obeyed, lacks_obeyed, kept_kind}
+use Rattle.index_saving.proofs.SavedFileLaws.{kept_kind}
+use Rattle.script_interpreter.proofs.EngineCalls.{open_forgotten, forget_obeyed, lacks_obeyed}
 use Rattle.script_interpreter.proofs.interpreter.forget.Goals as goal
 
 pub returns-in-Ok-clause-ready : goal.returns-in-Ok-clause-ready

@@ -1,24 +1,27 @@
--- What `save` prints, index by index.
-use Rattle.std.proofs.Common.{◌≡◌, ◌≢◌, ℕ, zero, suc, ◌+◌, ◌<◌, ◌≤◌, Bool, true, false, List, [], ◌∷◌, ◌++◌, Some, None, ◌⊎◌, inl, inr, length, take, arith, refl, sym, ◌∙◌, ap, subst, slice_get, get_or, append_assoc, append-nil}
-use Rattle.std.specs.Prelude.{if◌then◌else◌}
+-- The text of an index file, index by index.
+use Rattle.std.proofs.Common.{◌≡◌, ◌≢◌, ℕ, zero, suc, ◌+◌, ◌<◌, ◌≤◌, Bool, true, false, List, [], ◌∷◌, ◌++◌, Option, Some, None, Ok, Err, ◌⊎◌, inl, inr, length, take, arith, refl, sym, ◌∙◌, ap, subst, slice_get, get_or, append_assoc, append-nil, true≢false}
+use Rattle.std.specs.Prelude.{◌^◌, ◌↔◌, IsSome, is_some, if◌then◌else◌}
 use Rattle.std.proofs.lemmas.List.{take_more, take_all}
 use Rattle.std.proofs.lemmas.Option.{slice_get_within, get_or_from_slice_get, slice_get-get_or}
 use Rattle.std.proofs.lemmas.Bool.{cases_lt}
-use Rattle.graph_spec.specs.Graphs.{Graph}
+use Rattle.graph_spec.specs.Graphs.{Graph, IsGraph}
 use Rattle.graph_spec.specs.Shapes.{shape_of}
 use Rattle.bisim_spec.specs.Tests.{together}
 use Rattle.bisim_spec.specs.IndexGraphs.{View}
 use Rattle.index_api.specs.declared.kinds.Via.{Via}
 use Rattle.index_api.specs.declared.kinds.Via.TheVariants.{Data, A, One, Fb, B}
 use Rattle.index_api.specs.IndexOrder.{levels_below, all_indexes}
-use Rattle.index_api.specs.IndexKinds.{KeptIndexes, is_kept}
+use Rattle.index_api.specs.IndexKinds.{KeptIndexes, kept_of, is_kept}
 use Rattle.index_api.specs.Meanings.{Meaning, KeepsViews}
 use Rattle.index_file.specs.WrittenFiles.{head_text, view_text}
+use Rattle.index_file.specs.FittingViews.{IsStableMinimal}
+use Rattle.index_file.specs.WholeFiles.{HasLabels, CanBeSaved, IsIndexFile}
+use Rattle.index_file.proofs.FittingFiles.{saved_whole}
 use Rattle.index_file.specs.SavedIndexes.{IsViewOf, SavesIndex, SavesIndexes, SavesFile, count_kept}
-use Rattle.pathindex_core.specs.Engines.{EngineSeen, EachBecomes, AreKeptFor, graph_in, level_in, kept_in}
+use Rattle.pathindex_core.specs.Engines.{Opened, EngineSeen, EachBecomes, AreKeptFor, IsSound, graph_in, level_in, kept_in}
 use Rattle.pathindex_core.specs.Calls.{KeepsAllButViews, IsViewIn}
 use Rattle.pathindex_core.proofs.Refreshed.{keeps_itself}
-use Rattle.script_interpreter.specs.EngineStates.{IsOpen}
+use Rattle.index_saving.proofs.KeptOne.{HasOne, has_one}
 
 -- an engine that is asked nothing, or twice
 each_itself : (xs : List Meaning) → EachBecomes KeepsViews xs xs
@@ -39,9 +42,17 @@ asked_nothing e = record { opened = refl; keeps = each_itself e.boxes; kept = re
 pub asked_twice : (e f h : EngineSeen) → KeepsAllButViews e f → KeepsAllButViews f h → KeepsAllButViews e h
 asked_twice e f h a b = record { opened = b.opened ∙ a.opened; keeps = each_both e.boxes f.boxes h.boxes a.keeps b.keeps; kept = b.kept ∙ a.kept }
 
--- the highest level of an open engine
-pub level_few : (e : EngineSeen) → IsOpen e → level_in e.opened ≤ 8
-level_few e o = subst (λ x. level_in x ≤ 8) (sym o.opened_is) (subst (λ x. AreKeptFor x e.boxes) o.opened_is o.sound.fit).0
+-- an engine that was asked is still open
+pub still_open : (e f : EngineSeen) → IsSome e.opened → KeepsAllButViews e f → IsSome f.opened
+still_open e f o a = ap is_some a.opened ∙ o
+
+-- the highest level of an engine
+few_levels : (o : Option Opened) (boxes : List Meaning) → AreKeptFor o boxes → level_in o ≤ 8
+few_levels None boxes h = omega arith
+few_levels (Some o) boxes h = h.0
+
+pub level_few : (e : EngineSeen) → IsSound e → level_in e.opened ≤ 8
+level_few e sound = few_levels e.opened e.boxes sound.fit
 
 -- none of these is the graph itself
 abbrev AreIndexes : List Via → Type 0
@@ -70,10 +81,10 @@ pub no_data : (k n : ℕ) (via : Via) → slice_get (all_indexes k) n ≡ Some v
 no_data k n via e d = one_is (all_indexes k) n (slice_get_within (all_indexes k) n via e) (all_are k) (get_or_from_slice_get (all_indexes k) n via Data e ∙ d)
 
 -- one more of these indexes, and all of them
-first_more : (vias : List Via) (n : ℕ) (via : Via) → slice_get vias n ≡ Some via → take (n + 1) vias ≡ take n vias ++ via ∷ []
+pub first_more : (vias : List Via) (n : ℕ) (via : Via) → slice_get vias n ≡ Some via → take (n + 1) vias ≡ take n vias ++ via ∷ []
 first_more vias n via e = take_more vias n via (slice_get_within vias n via e) ∙ ap (λ v. take n vias ++ v ∷ []) (get_or_from_slice_get vias n via via e)
 
-all_taken : (vias : List Via) (n : ℕ) → slice_get vias n ≡ None → take n vias ≡ vias
+pub all_taken : (vias : List Via) (n : ℕ) → slice_get vias n ≡ None → take n vias ≡ vias
 all_taken vias n e = take_all n vias (past (cases_lt n (length vias)))
   where
     some_none : {v : Via} → Some v ≡ None → ⊥
@@ -82,6 +93,11 @@ all_taken vias n e = take_all n vias (past (cases_lt n (length vias)))
     past : (n < length vias) ⊎ (length vias ≤ n) → length vias ≤ n
     past (inl within) = absurd (some_none (sym (slice_get-get_or vias n Data within) ∙ e))
     past (inr over) = over
+
+-- what an answer without an error says of an index
+pub kept_kind : {T E : Type 0} (b : Bool) (x : T) (e : E) → (Ok x ≡ Err e) ↔ (b ≡ false) → b ≡ true
+kept_kind true x e h = refl
+kept_kind false x e h = absurd (let z = h.1 refl in cc)
 
 -- counting
 count_append : (kept : KeptIndexes) (vias more : List Via) → count_kept kept (vias ++ more) ≡ count_kept kept vias + count_kept kept more
@@ -114,7 +130,7 @@ saves_view e f via text a v =
 pub saves_none : (g : Graph) (kept : KeptIndexes) (via : Via) (text : List ℕ) → is_kept kept via ≡ false → text ≡ [] → SavesIndex g kept via text
 saves_none g kept via text k t = inr (k, t)
 
-saves_append : (g : Graph) (kept : KeptIndexes) (vias more : List Via) (text rest : List ℕ) → SavesIndexes g kept vias text → SavesIndexes g kept more rest → SavesIndexes g kept (vias ++ more) (text ++ rest)
+pub saves_append : (g : Graph) (kept : KeptIndexes) (vias more : List Via) (text rest : List ℕ) → SavesIndexes g kept vias text → SavesIndexes g kept more rest → SavesIndexes g kept (vias ++ more) (text ++ rest)
 saves_append g kept [] more text rest h k = subst (λ t. SavesIndexes g kept more (t ++ rest)) (sym h) k
 saves_append g kept (via ∷ vias) more text rest h k =
     (h.0, h.1 ++ rest, h.2, saves_append g kept vias more h.1 rest h.3 k, ap (λ t. t ++ rest) h.4 ∙ append_assoc h.0 h.1 rest)
@@ -157,3 +173,30 @@ is_file e f k count head out text a level c h v t =
     let head_is : head ≡ head_text (graph_in e.opened) k (count_kept (kept_in e) (all_indexes k)) = h ∙ ap (λ x. head_text x k count) g ∙ ap (head_text (graph_in e.opened) k) c in
     subst (λ j. (lines : List ℕ) × SavesIndexes (graph_in e.opened) (kept_in e) (all_indexes j) lines × (text ≡ head_text (graph_in e.opened) j (count_kept (kept_in e) (all_indexes j)) ++ lines)) level
     (v.0, lines_saved, t ∙ v.2 ∙ ap (λ x. x ++ v.0) head_is)
+
+-- the 1-index of an open engine is stable and minimal
+one_minimal : (boxes : List Meaning) (o : Opened) → AreKeptFor (Some o) boxes → is_kept (kept_of boxes o.k) One ≡ true → IsStableMinimal (shape_of o.graph) (kept_of boxes o.k).one
+one_minimal boxes o fit h =
+    let one : HasOne o.graph boxes = has_one o boxes fit.1 h in
+    subst (λ b. IsStableMinimal (shape_of o.graph) b) (sym one.blocks) (record { stable = one.fits.index.stable; minimal = one.fits.index.minimal })
+
+minimal_in : (boxes : List Meaning) (o : Option Opened) → IsSome o → AreKeptFor o boxes → is_kept (kept_of boxes (level_in o)) One ≡ true
+    → IsStableMinimal (shape_of (graph_in o)) (kept_of boxes (level_in o)).one
+minimal_in boxes None open fit h = absurd (true≢false (sym open))
+minimal_in boxes (Some o) open fit h = one_minimal boxes o fit h
+
+-- what an engine has can be saved
+can_be_saved : (e : EngineSeen) → IsSome e.opened → IsSound e → IsGraph (graph_in e.opened) → length (graph_in e.opened).allocated ≤ 2 ^ 30 → HasLabels (graph_in e.opened)
+    → CanBeSaved (graph_in e.opened) (kept_in e)
+can_be_saved e open sound graph few labels = record {
+  graph = graph;
+  numbers = omega (arith, few);
+  level = level_few e sound;
+  labels = labels;
+  one = minimal_in e.boxes e.opened open sound.fit;
+}
+
+-- and then the text is an index file
+pub whole_file : (e : EngineSeen) (text : List ℕ) → IsSome e.opened → IsSound e → IsGraph (graph_in e.opened) → length (graph_in e.opened).allocated ≤ 2 ^ 30 → HasLabels (graph_in e.opened)
+    → SavesFile (graph_in e.opened) (kept_in e) text → IsIndexFile (graph_in e.opened) (kept_in e) text
+whole_file e text open sound graph few labels saves = saved_whole (graph_in e.opened) (kept_in e) text (can_be_saved e open sound graph few labels) saves

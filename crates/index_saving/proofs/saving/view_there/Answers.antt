@@ -6,8 +6,8 @@ use Rattle.bisim_spec.specs.Tests.{together}
 use Rattle.quotient.specs.Quotients.{view_of}
 use Rattle.index_file.specs.WrittenFiles.{view_text}
 use Rattle.pathindex_core.specs.Engines.{by_meaning}
-use Rattle.script_interpreter.proofs.SavedFileLaws.{is_view_of}
-use Rattle.script_interpreter.proofs.saving.view_there.Goals as goal
+use Rattle.index_saving.proofs.SavedFileLaws.{is_view_of}
+use Rattle.index_saving.proofs.saving.view_there.Goals as goal
 
 pub view_text-requires-clause-live : goal.view_text-requires-clause-live
 view_text-requires-clause-live g c = subst (λ h. IsPartition (shape_of h) (view_of c.in-Some.summary.now).block_of) (sym c.graph.ensures) c.in-Some.ensures.shown.nodes

@@ -1,14 +1,14 @@
-use Rattle.std.proofs.Common.{◌≡◌, ◌≤◌, ◌+◌, ◌*◌, ◌-◌, take}
+use Rattle.std.proofs.Common.{◌≡◌, ◌≤◌, ◌+◌, ◌*◌, ◌-◌, take, IsSome}
 use Rattle.index_api.specs.IndexOrder.{all_indexes}
 use Rattle.index_file.specs.SavedIndexes.{count_kept}
-use Rattle.pathindex_core.specs.Engines.{by_meaning, kept_in}
+use Rattle.pathindex_core.specs.Engines.{IsSound, by_meaning, kept_in}
 use Rattle.pathindex_core.specs.Calls.{KeepsAllButViews}
-use Rattle.script_interpreter.specs.EngineStates.{IsOpen}
-use Rattle.script_interpreter.proofs.saving.count_kept.Given as goal
+use Rattle.index_saving.proofs.saving.count_kept.Given as goal
 
 abbrev pub invariant-loop-via : goal.invariant-loop-via
 invariant-loop-via g l = record {
-  ready : IsOpen (by_meaning g.B.PathIndex.meaning l.engine);
+  is_open : IsSome l.engine.opened;
+  sound : IsSound (by_meaning g.B.PathIndex.meaning l.engine);
   asked : KeepsAllButViews (by_meaning g.B.PathIndex.meaning l.fn.engine) (by_meaning g.B.PathIndex.meaning l.engine);
   count : l.count ≡ count_kept (kept_in (by_meaning g.B.PathIndex.meaning l.fn.engine)) (take l.n (all_indexes l.k));
   few : l.count ≤ l.n;

@@ -1,0 +1,2 @@
+pub mod KeptOne
+pub mod SavedFileLaws
