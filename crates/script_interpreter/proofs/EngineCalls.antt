@@ -16,7 +16,7 @@ use Rattle.index_api.specs.Meanings.{Meaning, IsBuilt}
 use Rattle.index_api.specs.IndexKinds.{is_kind, has_kind, kinds_of, is_kept}
 use Rattle.branch_query.specs.Queries.{Query, path, branch}
 use Rattle.triple_names.specs.Names.{Names}
-use Rattle.script_read.specs.Commands.{change, extents, sizes, save, forget}
+use Rattle.script_read.specs.Commands.{change, extents, sizes, forget}
 use Rattle.pathindex_core.specs.Engines.{Opened, EngineSeen, EachBecomes, IsKeptFor, AreKeptFor, IsSound, graph_in}
 use Rattle.pathindex_core.specs.Calls.{IsMade, IsForgotten, KeepsAllButViews}
 use Rattle.pathindex_core.specs.Updates.{IsUpdated, graph_or, outcome_in, opened_after}
@@ -28,8 +28,8 @@ use Rattle.script_interpreter.specs.LineTexts.{made_lines, refused_line, ok_line
 use Rattle.script_interpreter.specs.Outputs.{Gathered, with_printed}
 use Rattle.script_interpreter.specs.States.{State, BeginsRun}
 use Rattle.script_interpreter.specs.EngineStates.{IsOpen, state_in}
-use Rattle.script_interpreter.specs.Indexes.{ShowsAnswers, ShowsExtents, unkept, ShowsSizes, ShowsFile}
-use Rattle.script_interpreter.specs.Runs.{IsChanged, Becomes, Obeys, changes, asks_path, asks_branch, lists, measures, saves, forgets, lacks}
+use Rattle.script_interpreter.specs.Indexes.{ShowsAnswers, ShowsExtents, unkept, ShowsSizes}
+use Rattle.script_interpreter.specs.Runs.{IsChanged, Becomes, Obeys, changes, asks_path, asks_branch, lists, measures, forgets, lacks}
 use Rattle.script_interpreter.specs.RunSteps.{query_command, Changed, Obeyed}
 use Rattle.script_interpreter.proofs.EngineLemmas.{first_state, accepted_after, changed_state, forgotten_state}
 
@@ -124,7 +124,7 @@ few_numbers c e f answer before after_it ready m accepted b few a few_after =
 pub open_asked : (e f : EngineSeen) → IsOpen e → IsSound f → KeepsAllButViews e f → IsOpen f
 open_asked e f o sound a = record { sound = sound; opened = o.opened; opened_is = a.opened ∙ o.opened_is; limits_are = o.limits_are }
 
-same_asked : (n : Names) (e f : EngineSeen) → KeepsAllButViews e f → state_in f n ≡ state_in e n
+pub same_asked : (n : Names) (e f : EngineSeen) → KeepsAllButViews e f → state_in f n ≡ state_in e n
 same_asked n e f a i = record { graph = graph_in (a.opened i); kept = a.kept i; names = n }
 
 asks_query : (printing : Printing) (s : State) (via : Via) (q : Query) (text : List ℕ) (refuses : Bool) → ShowsAnswers printing s q via text refuses → Obeys (rules_for printing) s (query_command via q) text refuses s
@@ -155,15 +155,6 @@ sizes_obeyed n e f text old new a s g = record {
   printed = text;
   refuses = false;
   obeys = subst (Obeys (rules_for old.printing) (state_in e n) sizes text false) (sym (same_asked n e f a)) (measures text s);
-  gathered_is = g;
-}
-
-pub save_obeyed : (n : Names) (e f : EngineSeen) (text : List ℕ) (old new : Gathered) → KeepsAllButViews e f
-    → ShowsFile (state_in e n) text → new ≡ with_printed old text false → Obeyed (state_in e n) save old (state_in f n) new
-save_obeyed n e f text old new a s g = record {
-  printed = text;
-  refuses = false;
-  obeys = subst (Obeys (rules_for old.printing) (state_in e n) save text false) (sym (same_asked n e f a)) (saves text s);
   gathered_is = g;
 }
 

@@ -152,11 +152,12 @@ nothing_not_in_group limits line n (inl q) = n.0.0 q
 nothing_not_in_group limits line n (inr (inl k)) = n.0.1 (change k.0) k.1
 nothing_not_in_group limits line n (inr (inr k)) = n.0.1 end k
 
--- a command that is neither the first nor the last line of a group
-pub stands_alone : (c : Command) → c ≢ begin → c ≢ end → IsAlone c
-stands_alone begin b e = b refl
-stands_alone end b e = e refl
-stands_alone c b e = tt
+-- a command that is neither the first nor the last line of a group, nor writes a file
+pub stands_alone : (c : Command) → c ≢ begin → c ≢ end → c ≢ save → IsAlone c
+stands_alone begin b e s = b refl
+stands_alone end b e s = e refl
+stands_alone save b e s = s refl
+stands_alone c b e s = tt
 
 -- no group is open where the code has none
 pub none_kept : (kept : Option OpenGroup) → kept ≡ None → IsKeptAs None kept

@@ -2,7 +2,7 @@ pub mod EngineLemmas
 pub mod EngineCalls
 pub mod WalkCalls
 pub mod TripleCalls
-pub mod SavedFileLaws
+pub mod PieceLaws
 pub mod GroupLemmas
 pub mod KeptGroups
 pub mod TakenLemmas

@@ -8,12 +8,13 @@ use Rattle.script_interpreter.specs.Rules.{rules_for}
 use Rattle.script_interpreter.specs.LineTexts.{bad_line}
 use Rattle.script_interpreter.specs.Outputs.{Gathered, with_printed}
 use Rattle.script_interpreter.specs.States.{State}
-use Rattle.script_interpreter.specs.Runs.{Group, IsWithinScript, TakesLine, IsBadIn, text_at_end}
+use Rattle.script_read.specs.Commands.{save}
+use Rattle.script_interpreter.specs.Runs.{Group, IsWithinScript, TakesLine, outside, command, saves, IsBadIn, text_at_end}
 use Rattle.script_interpreter.specs.OpenGroups.{IsKeptAs}
-use Rattle.script_interpreter.specs.RunSteps.{IsTaken, IsLeft, FirstIsBad, Goes, CanRead, progress}
+use Rattle.script_interpreter.specs.RunSteps.{IsTaken, IsLeft, IsDue, FirstIsBad, Goes, CanRead, progress}
 use Rattle.script_interpreter.specs.declared.group.OpenGroup.{OpenGroup}
 use Rattle.script_interpreter.specs.declared.script.Next.{Next}
-use Rattle.script_interpreter.specs.declared.script.Next.TheVariants.{Taken, AtBad, AtEnd}
+use Rattle.script_interpreter.specs.declared.script.Next.TheVariants.{Taken, Saves, AtBad, AtEnd}
 use Rattle.script_interpreter.specs.declared.script.Stop.{Stop}
 
 -- what a step of the run comes to, whatever group the code has
@@ -54,6 +55,42 @@ taken_goes s t kept kept2 number line r r2 is_open before after old new can read
           lines = ap (λ (y : ReaderState). y.number) reads.passed;
           bytes = ap (λ (y : ReaderState). y.taken) reads.passed;
         },
+        ap (λ (g : Gathered). g.text) h.gathered_is,
+      ),
+    )
+
+refuses_nothing : (b : Bool) → b ≡ (b || false)
+refuses_nothing true = refl
+refuses_nothing false = refl
+
+-- a line asks for a file
+pub save_goes : (s t : State) (kept kept2 : Option OpenGroup) (line : List ℕ) (r r2 : ReaderState) (is_open : Bool) (before after : Option (List ℕ)) (old new : Gathered)
+    → CanRead r is_open → ReadsLine r r2 before after → line ≡ r2.line
+    → ((was : Option Group) → IsKeptAs was kept → (left : Option Group) × IsKeptAs left kept2 × IsDue s line was old t left new)
+    → Steps s t kept kept2 r r2 before after old new Saves
+save_goes s t kept kept2 line r r2 is_open before after old new can reads is due was k =
+    let x = due was k in
+    let same : line ≡ reads.first.text = is ∙ ap (λ (y : ReaderState). y.line) reads.passed in
+    let h = x.2 in (
+      x.0,
+      x.1,
+      ap (λ (g : Gathered). g.printing) h.gathered_is,
+      (
+        reads.first,
+        reads.observable,
+        λ text shows. record {
+          within = (subst (λ n. length reads.first.text ≤ n) can.line_limit reads.within.0, subst (λ n. r.taken + length reads.first.text + length reads.first.end ≤ n) can.text_limit reads.within.1);
+          refuses = false;
+          takes = subst (λ w. TakesLine (rules_for old.printing) s (r.number + 1) reads.first.text w text false t x.0) (sym h.outside)
+              (subst (λ l. TakesLine (rules_for old.printing) s (r.number + 1) reads.first.text None text false t l) (sym h.left_is)
+              (subst (λ u. TakesLine (rules_for old.printing) s (r.number + 1) reads.first.text None text false u None) (sym h.state)
+              (subst (λ l. TakesLine (rules_for old.printing) s (r.number + 1) l None text false s None) same
+              (outside text false s (command save h.spelled h.free text false s (saves text shows))))));
+          refused = ap (λ (g : Gathered). g.refused) h.gathered_is ∙ refuses_nothing old.refused;
+          lines = ap (λ (y : ReaderState). y.number) reads.passed;
+          bytes = ap (λ (y : ReaderState). y.taken) reads.passed;
+        },
+        h.state,
         ap (λ (g : Gathered). g.text) h.gathered_is,
       ),
     )

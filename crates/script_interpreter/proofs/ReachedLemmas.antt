@@ -12,6 +12,7 @@ use Rattle.script_interpreter.specs.States.{State}
 use Rattle.script_interpreter.specs.Runs.{Progress, Group, RunsLine, RunsLines, start, end_text, end_status, RunsPrefix}
 use Rattle.script_interpreter.specs.Observable.{RanObservable, PrefixObservable}
 use Rattle.script_interpreter.specs.RunSteps.{progress, FirstIsBad, Writes}
+use Rattle.script_interpreter.specs.Pieces.{Wrote, WrotePart}
 use Rattle.script_interpreter.specs.OpenGroups.{IsKeptAs}
 use Rattle.script_interpreter.specs.declared.group.OpenGroup.{OpenGroup}
 use Rattle.script_interpreter.proofs.PrefixLemmas.{prefix_of, prefix_of_taken}
@@ -195,6 +196,21 @@ prefix-over {rules} {first} (Some x) (Some y) {old = old} {new = new} {out = out
       (ap (λ z. z ++ end_text p) r.printed_is ∙ append_assoc r.prefix out (end_text p) ∙ ap (λ g. r.prefix ++ g) (sym e ∙ w.gathered_is)
       ∙ sym (append_assoc r.prefix w.prefix w.rest))),
 )
+
+-- A line is taken once a text is written, which may be any that is right: what was gathered is written before it.
+due : {rules : Rules} {first : State} {a b old new : Option (List ℕ)} {out : List ℕ} {p : Progress} → Reached rules first a b old new out p
+    → (l : Line) (text : List ℕ) (q : Progress) (c mid : Option (List ℕ)) → IsFirst l b c → RunsLine rules p l text q → Appends new mid out → Reached rules first a c old mid text q
+due {out = out} r l text q c mid is_first takes flushed = reached-more (reached-written r mid [] (out, flushed, sym (append-nil out))) l text q c text is_first takes refl
+
+pub reached-saved : {rules : Rules} {first : State} {a b old new : Option (List ℕ)} {out : List ℕ} {p : Progress} → Reached rules first a b old new out p
+    → (l : Line) (q : Progress) (c mid newer : Option (List ℕ)) (Is : List ℕ → Type 0) → IsFirst l b c → ((text : List ℕ) → Is text → RunsLine rules p l text q) → Appends new mid out → Wrote Is mid newer
+    → Reached rules first a c old newer [] q
+reached-saved r l q c mid newer Is is_first takes flushed w = reached-written (due r l w.text q c mid is_first (takes w.text w.is) flushed) newer [] (w.text, w.written, sym (append-nil w.text))
+
+pub prefix-saved : {rules : Rules} {first : State} (a b : Option (List ℕ)) {old new : Option (List ℕ)} {out : List ℕ} {p : Progress} → Reached rules first a b old new out p
+    → (l : Line) (q : Progress) (c mid newer : Option (List ℕ)) (Is : List ℕ → Type 0) → IsFirst l b c → ((text : List ℕ) → Is text → RunsLine rules p l text q) → Appends new mid out → WrotePart Is mid newer
+    → PrefixObservable rules first a old newer
+prefix-saved a b r l q c mid newer Is is_first takes flushed w = prefix-part a c (due r l w.text q c mid is_first (takes w.text w.is) flushed) newer (part_written mid newer w.text w.written)
 
 -- a fact of an answer, by what its call ensures
 pub ok_fact : {T E : Type 0} (r : Result T E) (t : T) (A : Type 0) (P : T → Type 0) → IfOk r (λ s. s ≡ t) → OnOk r A → (A → P t) → IfOk r P

@@ -1,6 +1,7 @@
 pub mod Rules
 pub mod LineTexts
 pub mod Outputs
+pub mod Pieces
 pub mod States
 pub mod EngineStates
 pub mod Indexes

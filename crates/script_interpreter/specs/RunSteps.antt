@@ -11,14 +11,15 @@ use Rattle.script_interpreter.specs.LineTexts.{bad_line}
 use Rattle.index_api.specs.declared.kinds.Via.{Via}
 use Rattle.branch_query.specs.Queries as query
 use Rattle.branch_query.specs.Queries.{Query}
-use Rattle.script_read.specs.Commands.{Command, begin, end, path, branch}
+use Rattle.script_read.specs.Commands.{Command, begin, end, save, path, branch, IsSpelled, PassesLimit}
 use Rattle.change_spec.specs.Steps.{Step}
 use Rattle.script_interpreter.specs.declared.group.Scope.{Scope}
 use Rattle.script_interpreter.specs.declared.interpreter.Outcome.{Outcome}
-use Rattle.script_interpreter.specs.declared.interpreter.Outcome.TheVariants.{Done, Bad}
+use Rattle.script_interpreter.specs.declared.interpreter.Outcome.TheVariants.{Done, Bad, Due}
 use Rattle.script_interpreter.specs.declared.script.Next.{Next}
-use Rattle.script_interpreter.specs.declared.script.Next.TheVariants.{Taken, AtBad, AtEnd}
+use Rattle.script_interpreter.specs.declared.script.Next.TheVariants.{Taken, Saves, AtBad, AtEnd}
 use Rattle.script_interpreter.specs.States.{State}
+use Rattle.script_interpreter.specs.Indexes.{ShowsFile}
 use Rattle.script_interpreter.specs.Runs.{Progress, Group, Makes, Obeys, TakesLine, RunsLine, IsBad, IsBadIn, end_text, end_status}
 
 -- the new text begins with the old one
@@ -31,10 +32,11 @@ abbrev pub query_command : Via → Query → Command
 query_command via (query.path e) = path via e
 query_command via (query.branch q) = branch via q
 
--- the command is neither the first nor the last line of a group
+-- the command is neither the first nor the last line of a group, nor does it write a file
 abbrev pub IsAlone : Command → Type 0
 IsAlone begin = ⊥
 IsAlone end = ⊥
+IsAlone save = ⊥
 IsAlone c = ⊤
 
 -- a change was made, or refused, and what it prints is gathered
@@ -63,10 +65,20 @@ pub record IsLeft (s : State) (line : List ℕ) (group : Option Group) (old : Ga
   pub state : t ≡ s
   pub gathered_is : new ≡ old
 
+-- The line is `save` and stands in no group. Nothing was gathered, and the state is as it was: the file is to be written.
+pub record IsDue (s : State) (line : List ℕ) (group : Option Group) (old : Gathered) (t : State) (left : Option Group) (new : Gathered) : Type 0 where
+  pub spelled : IsSpelled line save
+  pub free : ¬ PassesLimit program_limits line
+  pub outside : group ≡ None
+  pub left_is : left ≡ None
+  pub state : t ≡ s
+  pub gathered_is : new ≡ old
+
 -- what a line comes to
 abbrev pub LineComes : State → ℕ → List ℕ → Option Group → Gathered → Outcome → State → Option Group → Gathered → Type 0
 LineComes s number line group old Done t left new = IsTaken s number line group old t left new
 LineComes s number line group old Bad t left new = IsLeft s line group old t new
+LineComes s number line group old Due t left new = IsDue s line group old t left new
 
 -- how far the run has come, by its state, the group that isn't ended, whether some line printed `refused`, and its reader
 abbrev pub progress : State → Option Group → Bool → ReaderState → Progress
@@ -77,17 +89,23 @@ abbrev pub FirstIsBad : Rules → Progress → Option (List ℕ) → Type 0
 FirstIsBad rules p None = ⊤
 FirstIsBad rules p (Some text) = (l : Line) × (ls : List Line) × (cut text ≡ l ∷ ls) × IsBad rules p l
 
--- The run takes a line and gathers what it prints, or it ends: at a bad line, or at the end of the script. If it
--- ends its state is as it was.
+-- the line leads there with each text that is a file of the state
+abbrev pub SavesLine : Rules → Progress → Line → Progress → Type 0
+SavesLine rules p l q = (text : List ℕ) → ShowsFile p.state text → RunsLine rules p l text q
+
+-- The run takes a line and gathers what it prints; or it takes a `save`, and the file is to be written; or it ends: at a bad line, or at
+-- the end of the script. If it ends its state is as it was.
 abbrev pub Goes : Rules → Progress → Option (List ℕ) → List ℕ → Next → Progress → Option (List ℕ) → List ℕ → Type 0
 Goes rules p before out Taken q after gathered = (l : Line) × (printed : List ℕ)
     × IsFirst l before after × RunsLine rules p l printed q × (gathered ≡ out ++ printed)
+Goes rules p before out Saves q after gathered = (l : Line) × IsFirst l before after × SavesLine rules p l q × (q.state ≡ p.state) × (gathered ≡ out)
 Goes rules p before out AtBad q after gathered = FirstIsBad rules p before × (q.state ≡ p.state) × (gathered ≡ out ++ bad_line (p.lines + 1))
 Goes rules p before out AtEnd q after gathered = IsOver before × (q.state ≡ p.state) × (end_status q ≡ end_status p) × (gathered ≡ out ++ end_text p)
 
 -- a fact for a step after which the run goes on
 abbrev pub OnTaken : Next → Type 0 → Type 0
 OnTaken Taken P = P
+OnTaken Saves P = P
 OnTaken AtBad P = ⊤
 OnTaken AtEnd P = ⊤
 

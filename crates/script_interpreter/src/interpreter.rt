@@ -8,7 +8,7 @@ ghost use Rattle.graph_steps.specs.StepLists.{step_of};
 ghost use Rattle.index_api.specs.declared.kinds.Via.TheVariants.{Data};
 ghost use Rattle.branch_query.specs.Queries.{query_of};
 ghost use Rattle.script_read.specs.Commands.{change as changing, begin as beginning, end as ending, why as asking_why, check as checking};
-ghost use Rattle.script_read.specs.Commands.{extents as listing, sizes as measuring, forget as forgetting};
+ghost use Rattle.script_read.specs.Commands.{extents as listing, sizes as measuring, save as saving, forget as forgetting};
 ghost use Rattle.script_read.specs.ReadLines.{command_of, ReadsCommand};
 ghost use Rattle.script_read.specs.Commands.{IsSpelled};
 ghost use Rattle.graph_spec.specs.ProgramLimits.{program_limits};
@@ -24,7 +24,6 @@ ghost use Rattle.script_interpreter.specs.OpenGroups.{IsKeptAs};
 use crate::changes::{change, delete, insert, make};
 use crate::group::{OpenGroup, Scope};
 use crate::output::Output;
-use crate::saving::save;
 use branch_query::Query;
 use extent_report::{answer_text, walk_text};
 use graph_update::Step;
@@ -46,6 +45,8 @@ use walk_proof::{Walk, find};
 pub(crate) enum Outcome {
     /// The line was taken.
     Done,
+    /// The line is taken once the file that it asks for is written.
+    Due,
     /// The line is no command, and neither blank nor a comment.
     Bad,
 }
@@ -279,7 +280,7 @@ fn obey<B: PathIndex, L: Ledger>(
         Command::Check(walk, expr) => check(alloc, engine, &walk, &expr, output),
         Command::Extents(via) => list(alloc, engine, via, output, &mut steps),
         Command::Sizes => measure(alloc, engine, output, &mut steps),
-        Command::Save => save(alloc, engine, output, &mut steps),
+        Command::Save => unreachable!(),
         Command::Forget(kind) => forget(engine, kind, output),
     }
 }
@@ -296,6 +297,13 @@ fn is_end(command: &Command) -> bool
     ensures { IsTrue result ↔ (command_of command.now ≡ ending) }
 {
     matches!(*command, Command::End)
+}
+
+/// Whether a command asks for an index file.
+fn is_save(command: &Command) -> bool
+    ensures { IsTrue result ↔ (command_of command.now ≡ saving) }
+{
+    matches!(*command, Command::Save)
 }
 
 /// The step that a command is, if it is one.
@@ -348,6 +356,8 @@ fn take_command<B: PathIndex>(
         Ok(Outcome::Done)
     } else if is_end(&command) {
         Ok(Outcome::Bad)
+    } else if is_save(&command) {
+        Ok(Outcome::Due)
     } else {
         obey::<B, Brand>(alloc, engine, names, command, output, Blank::new(1))?;
         Ok(Outcome::Done)

@@ -1,158 +1,181 @@
-// The graph and the indexes that are kept, as an index file.
-ghost use Rattle.std.specs.Prelude.{◌≡◌, ◌≢◌, ◌≤◌, ◌++◌, List, ℕ, map, IfOk, OnOk, OnErr, IsSome, string_bytes, if◌then◌else◌};
+// The graph and the indexes that are kept, as an index file that is written part by part.
+ghost use Rattle.std.specs.Prelude.{◌≡◌, ◌≢◌, ◌<◌, ◌≤◌, Err, IsErrOf, OnOk, OnErr};
+ghost use Rattle.std.specs.Io.KnownBytes.{Appends};
+ghost use Rattle.px_base.specs.Causes.{MayHaveRisen};
+ghost use Rattle.px_base.specs.Files.{AppendsPrefix};
 ghost use Rattle.index_api.specs.declared.kinds.Via.TheVariants.{Data};
 ghost use Rattle.index_api.specs.IndexOrder.{all_indexes};
-ghost use Rattle.index_api.specs.IndexKinds.{is_kept};
-ghost use Rattle.index_file.specs.SavedIndexes as saved;
-ghost use Rattle.index_file.specs.SavedIndexes.{IsViewOf, SavesIndex, SavesIndexes, SavesFile};
-ghost use Rattle.triple_names.specs.Names.{Names as Numbers};
-ghost use Rattle.pathindex_core.specs.Boxes.{via_view};
+ghost use Rattle.index_file.specs.WrittenFiles.{head_text};
+ghost use Rattle.index_file.specs.SavedIndexes.{SavesIndex, SavesIndexes};
+ghost use Rattle.index_file.specs.WholeFiles.{HasLabels};
 ghost use Rattle.pathindex_core.specs.Calls.{KeepsAllButViews};
 ghost use Rattle.pathindex_core.specs.Engines.{by_meaning, graph_in, kept_in};
-ghost use Rattle.script_read.specs.Commands.{save as saving};
-ghost use Rattle.script_interpreter.specs.EngineStates.{state_of, IsOpen};
-ghost use Rattle.script_interpreter.specs.RunSteps.{Obeyed};
+ghost use Rattle.script_interpreter.specs.EngineStates.{IsOpen};
+ghost use Rattle.script_interpreter.specs.Indexes.{IsSaved};
+ghost use Rattle.script_interpreter.specs.Pieces.{Wrote, WrotePart, SavesParts};
 
-use crate::output::Output;
+use crate::script::Stop;
 use index_api::{PathIndex, Via};
-use index_file::{head, view_text};
-use pathindex_core::{AskError, Engine};
-use px_base::{Memory, Steps, Text};
+use index_file::head;
+use index_saving::{count_kept, view_lines};
+use label_graph::Graph;
+use pathindex_core::Engine;
+use px_base::{Memory, Sink, Steps, Text, put_all};
 use std::alloc::Global;
-use std::sync::ledger::Ledger;
+use std::sync::ledger::{Blank, Ledger};
 
-/// 1 if the index is kept, and then its view is there afterwards; 0 if it isn't.
-fn count_one<B: PathIndex, L: Ledger>(
+/// Writes a text.
+fn write_text<K: Sink>(text: &Text, sink: &mut K) -> Result<(), Stop>
+    ensures all { OnOk result (Appends (K.written sink.old) (K.written sink.new) text.now) }
+    ensures part { OnErr result (AppendsPrefix (K.written sink.old) (K.written sink.new) text.now) }
+    ensures sink { IsErrOf result Stop.Sink → MayHaveRisen (K.faults sink.old) (K.faults sink.new) }
+    ensures no_sink { result ≢ Err Stop.Sink → K.faults sink.new ≡ K.faults sink.old }
+    ensures no_shelf { result ≢ Err Stop.Shelf }
+{
+    match put_all(sink, text.as_bytes()) {
+        Ok(()) => Ok(()),
+        Err(_) => Err(Stop::Sink),
+    }
+}
+
+/// Writes the lines of the graph.
+fn write_head<K: Sink>(
+    alloc: Global,
+    graph: &Graph,
+    k: u32,
+    count: u32,
+    sink: &mut K,
+) -> Result<(), Stop>
+    ensures all { OnOk result (Appends (K.written sink.old) (K.written sink.new) (head_text graph.now.graph k count)) }
+    ensures part { OnErr result (AppendsPrefix (K.written sink.old) (K.written sink.new) (head_text graph.now.graph k count)) }
+    ensures sink { IsErrOf result Stop.Sink → MayHaveRisen (K.faults sink.old) (K.faults sink.new) }
+    ensures no_sink { result ≢ Err Stop.Sink → K.faults sink.new ≡ K.faults sink.old }
+    ensures no_shelf { result ≢ Err Stop.Shelf }
+{
+    match head(alloc, graph, k, count) {
+        Ok(text) => write_text(&text, sink),
+        Err(Memory) => Err(Stop::Memory),
+    }
+}
+
+/// Writes the view of an index, if the index is kept.
+fn write_view<B: PathIndex, K: Sink, L: Ledger>(
+    alloc: Global,
     engine: &mut Engine<B>,
     via: Via,
+    sink: &mut K,
     steps: &mut Steps<L>,
-) -> Result<u32, Memory>
+) -> Result<(), Stop>
     requires ready { IsOpen (by_meaning B.meaning engine.old) }
     requires index { via ≢ Data }
     ensures ready { IsOpen (by_meaning B.meaning engine.new) }
     ensures asked { KeepsAllButViews (by_meaning B.meaning engine.old) (by_meaning B.meaning engine.new) }
-    ensures count { IfOk result (λ count. count ≡ (if is_kept (kept_in (by_meaning B.meaning engine.old)) via then 1 else 0)) }
+    ensures all { OnOk result (Wrote (SavesIndex (graph_in engine.old.opened) (kept_in (by_meaning B.meaning engine.old)) via)
+        (K.written sink.old) (K.written sink.new)) }
+    ensures part { OnErr result (WrotePart (SavesIndex (graph_in engine.old.opened) (kept_in (by_meaning B.meaning engine.old)) via)
+        (K.written sink.old) (K.written sink.new)) }
+    ensures sink { IsErrOf result Stop.Sink → MayHaveRisen (K.faults sink.old) (K.faults sink.new) }
+    ensures no_sink { result ≢ Err Stop.Sink → K.faults sink.new ≡ K.faults sink.old }
+    ensures no_shelf { result ≢ Err Stop.Shelf }
 {
-    match engine.ready(via, steps) {
-        Ok(()) => Ok(1),
-        Err(AskError::NoIndex) => Ok(0),
-        Err(AskError::Memory) => Err(Memory),
+    // Called for its contract: some text is the view, also where it can't be made.
+    let _known = engine.graph().created();
+    match view_lines(alloc, engine, via, steps) {
+        Ok(lines) => write_text(&lines, sink),
+        Err(Memory) => Err(Stop::Memory),
     }
 }
 
-/// How many indexes with levels up to `k` are kept.
-fn count_kept<B: PathIndex, L: Ledger>(
+/// Writes the view of each index with levels up to `k` that is kept.
+fn write_views<B: PathIndex, K: Sink, L: Ledger>(
+    alloc: Global,
     engine: &mut Engine<B>,
     k: u32,
+    sink: &mut K,
     steps: &mut Steps<L>,
-) -> Result<u32, Memory>
+) -> Result<(), Stop>
     requires level { k ≤ 8 }
     requires ready { IsOpen (by_meaning B.meaning engine.old) }
     ensures ready { IsOpen (by_meaning B.meaning engine.new) }
     ensures asked { KeepsAllButViews (by_meaning B.meaning engine.old) (by_meaning B.meaning engine.new) }
-    ensures count { IfOk result (λ count. count ≡ saved.count_kept (kept_in (by_meaning B.meaning engine.old)) (all_indexes k)) }
+    ensures all { OnOk result (Wrote (SavesIndexes (graph_in engine.old.opened) (kept_in (by_meaning B.meaning engine.old)) (all_indexes k))
+        (K.written sink.old) (K.written sink.new)) }
+    ensures part { OnErr result (WrotePart (SavesIndexes (graph_in engine.old.opened) (kept_in (by_meaning B.meaning engine.old)) (all_indexes k))
+        (K.written sink.old) (K.written sink.new)) }
+    ensures sink { IsErrOf result Stop.Sink → MayHaveRisen (K.faults sink.old) (K.faults sink.new) }
+    ensures no_sink { result ≢ Err Stop.Sink → K.faults sink.new ≡ K.faults sink.old }
+    ensures no_shelf { result ≢ Err Stop.Shelf }
 {
-    let mut count = 0;
+    // Called for its contract: some texts are the views, also where none can be made.
+    let _known = engine.graph().created();
     let mut n = 0;
     while let Some(via) = Via::nth(n, k) {
-        count += count_one(engine, via, steps)?;
-        n += 1;
-    }
-    Ok(count)
-}
-
-/// The view of an index, which is there.
-fn view_there<B: PathIndex>(alloc: Global, engine: &Engine<B>, via: Via) -> Result<Text, Memory>
-    requires ready { IsOpen (by_meaning B.meaning engine.now) }
-    requires index { via ≢ Data }
-    requires there { IsSome (via_view (map B.meaning engine.now.boxes) via) }
-    ensures { IfOk result (λ t. IsViewOf (graph_in engine.now.opened) (kept_in (by_meaning B.meaning engine.now)) via t) }
-{
-    match engine.look(via) {
-        Some(summary) => view_text(alloc, via, summary, engine.graph()),
-        None => unreachable!(),
-    }
-}
-
-/// The view of an index, or nothing if the index isn't kept.
-fn view_lines<B: PathIndex, L: Ledger>(
-    alloc: Global,
-    engine: &mut Engine<B>,
-    via: Via,
-    steps: &mut Steps<L>,
-) -> Result<Text, Memory>
-    requires ready { IsOpen (by_meaning B.meaning engine.old) }
-    requires index { via ≢ Data }
-    ensures ready { IsOpen (by_meaning B.meaning engine.new) }
-    ensures asked { KeepsAllButViews (by_meaning B.meaning engine.old) (by_meaning B.meaning engine.new) }
-    ensures text { IfOk result (λ t. SavesIndex (graph_in engine.old.opened) (kept_in (by_meaning B.meaning engine.old)) via t) }
-{
-    match engine.ready(via, steps) {
-        Ok(()) => view_there(alloc, engine, via),
-        Err(AskError::NoIndex) => Ok(Text::from_string(String::new(alloc))),
-        Err(AskError::Memory) => Err(Memory),
-    }
-}
-
-/// Appends the view of each index with levels up to `k` that is kept.
-fn push_views<B: PathIndex, L: Ledger>(
-    alloc: Global,
-    out: &mut String,
-    engine: &mut Engine<B>,
-    k: u32,
-    steps: &mut Steps<L>,
-) -> Result<(), Memory>
-    requires level { k ≤ 8 }
-    requires ready { IsOpen (by_meaning B.meaning engine.old) }
-    ensures ready { IsOpen (by_meaning B.meaning engine.new) }
-    ensures asked { KeepsAllButViews (by_meaning B.meaning engine.old) (by_meaning B.meaning engine.new) }
-    ensures text { OnOk result ((lines : List ℕ)
-        × SavesIndexes (graph_in engine.old.opened) (kept_in (by_meaning B.meaning engine.old)) (all_indexes k) lines
-        × (string_bytes out.new ≡ string_bytes out.old ++ lines)) }
-{
-    let mut n = 0;
-    while let Some(via) = Via::nth(n, k) {
-        let lines = view_lines(alloc, engine, via, steps)?;
-        out.push_str(lines.as_str())?;
-        n += 1;
+        match write_view(alloc, engine, via, sink, steps) {
+            Ok(()) => n += 1,
+            Err(stop) => return Err(stop),
+        }
     }
     Ok(())
 }
 
-/// The index file of the engine's graph and of the indexes that it keeps, each by the relation that its lists go by. A view that isn't
-/// computed is computed first. `Memory` leaves the graph, what is kept, and each view that is computed. O(n + e log e + t) for n node
-/// numbers, e edges and t bytes of text, beside what computing a view takes; it takes the memory of the text twice.
-pub fn file_text<B: PathIndex, L: Ledger>(
+/// Writes the lines of the graph, and the views of the indexes that are kept.
+fn write_file<B: PathIndex, K: Sink, L: Ledger>(
     alloc: Global,
     engine: &mut Engine<B>,
+    k: u32,
+    count: u32,
+    sink: &mut K,
     steps: &mut Steps<L>,
-) -> Result<Text, Memory>
+) -> Result<(), Stop>
+    requires level { k ≤ 8 }
     requires ready { IsOpen (by_meaning B.meaning engine.old) }
     ensures ready { IsOpen (by_meaning B.meaning engine.new) }
     ensures asked { KeepsAllButViews (by_meaning B.meaning engine.old) (by_meaning B.meaning engine.new) }
-    ensures text { IfOk result (λ t. SavesFile (graph_in engine.old.opened) (kept_in (by_meaning B.meaning engine.old)) t) }
+    ensures all { OnOk result (Wrote (SavesParts (graph_in engine.old.opened) (kept_in (by_meaning B.meaning engine.old)) k count)
+        (K.written sink.old) (K.written sink.new)) }
+    ensures part { OnErr result (WrotePart (SavesParts (graph_in engine.old.opened) (kept_in (by_meaning B.meaning engine.old)) k count)
+        (K.written sink.old) (K.written sink.new)) }
+    ensures sink { IsErrOf result Stop.Sink → MayHaveRisen (K.faults sink.old) (K.faults sink.new) }
+    ensures no_sink { result ≢ Err Stop.Sink → K.faults sink.new ≡ K.faults sink.old }
+    ensures no_shelf { result ≢ Err Stop.Shelf }
 {
-    let k = engine.level();
-    let count = count_kept(engine, k, steps)?;
-    let text = head(alloc, engine.graph(), k, count)?;
-    let mut out = text.into_string();
-    push_views(alloc, &mut out, engine, k, steps)?;
-    Ok(Text::from_string(out))
+    // Called for its contract, as above.
+    let _known = engine.graph().created();
+    match write_head(alloc, engine.graph(), k, count, sink) {
+        Ok(()) => write_views(alloc, engine, k, sink, steps),
+        Err(stop) => Err(stop),
+    }
 }
 
-/// Gathers the file of the graph and of the indexes that are kept.
-pub(crate) fn save<B: PathIndex, L: Ledger>(
+/// Writes the file of the graph and of the indexes that are kept, part by part: the lines of the graph, and each view. The next part is
+/// made once the one before it is written.
+pub(crate) fn save<B: PathIndex, K: Sink, L: Ledger>(
     alloc: Global,
     engine: &mut Engine<B>,
-    output: &mut Output,
-    steps: &mut Steps<L>,
-) -> Result<(), Memory>
+    sink: &mut K,
+    blank: Blank,
+) -> Result<(), Stop>
+    requires name { blank.name ≡ L.name }
+    requires parts { blank.parts ≡ L.parts }
+    requires some { 0 < blank.parts }
     requires ready { IsOpen (by_meaning B.meaning engine.old) }
+    requires labels { HasLabels (graph_in engine.old.opened) }
     ensures ready { IsOpen (by_meaning B.meaning engine.new) }
-    ensures ok { (n : Numbers) → OnOk result (Obeyed (state_of B.meaning engine.old n) saving output.old
-        (state_of B.meaning engine.new n) output.new) }
-    ensures err { OnErr result (output.new ≡ output.old) }
+    ensures asked { KeepsAllButViews (by_meaning B.meaning engine.old) (by_meaning B.meaning engine.new) }
+    ensures all { OnOk result (Wrote (IsSaved (graph_in engine.old.opened) (kept_in (by_meaning B.meaning engine.old)))
+        (K.written sink.old) (K.written sink.new)) }
+    ensures part { OnErr result (WrotePart (IsSaved (graph_in engine.old.opened) (kept_in (by_meaning B.meaning engine.old)))
+        (K.written sink.old) (K.written sink.new)) }
+    ensures sink { IsErrOf result Stop.Sink → MayHaveRisen (K.faults sink.old) (K.faults sink.new) }
+    ensures no_sink { result ≢ Err Stop.Sink → K.faults sink.new ≡ K.faults sink.old }
+    ensures no_shelf { result ≢ Err Stop.Shelf }
 {
-    let text = file_text(alloc, engine, steps)?;
-    output.push(text.as_bytes())
+    // Called for its contract: some text is the file, also where it can't be made, and numbers fit 32 bits.
+    let _known = engine.graph().created();
+    let mut steps = Steps::<L>::new(blank);
+    let k = engine.level();
+    match count_kept(engine, k, &mut steps) {
+        Ok(count) => write_file(alloc, engine, k, count, sink, &mut steps),
+        Err(Memory) => Err(Stop::Memory),
+    }
 }

@@ -20,10 +20,13 @@ use crate::group::OpenGroup;
 use crate::interpreter::{Outcome, take};
 use crate::output::Output;
 use crate::printing::Printing;
+use crate::saving::save;
 use index_api::PathIndex;
 use pathindex_core::Engine;
 use px_base::{Failed, LINE_BYTES, LineFault, LineReader, Memory, SCRIPT_BYTES, Shelf, Sink};
 use std::alloc::Global;
+use std::marker::Brand;
+use std::sync::ledger::Blank;
 use triple_names::Names;
 
 /// How many gathered bytes are written at once.
@@ -71,6 +74,8 @@ pub enum Ending {
 #[derive(Clone, Copy)]
 pub(crate) enum Next {
     Taken,
+    /// The line is taken once the index file is written.
+    Saves,
     AtBad,
     AtEnd,
 }
@@ -141,6 +146,7 @@ fn next_line<B: PathIndex, H: Shelf>(
             output,
         ) {
             Ok(Outcome::Done) => Ok(Next::Taken),
+            Ok(Outcome::Due) => Ok(Next::Saves),
             Ok(Outcome::Bad) => push_bad(output, reader.number()),
             Err(_) => Err(Stop::Memory),
         },
@@ -200,7 +206,7 @@ fn ending_of(in_group: bool, refused: bool) -> Ending
 /// Runs the script that is open, on the graph of the engine, to its end or to a line that is bad. By the names triples
 /// are inserted and deleted: the numbers of terms and triples in that graph. O(t) for t bytes of the script, and what the
 /// commands cost (`Engine`, `Names`); it takes memory for a block of the script, its longest line, and what is gathered of
-/// the output.
+/// the output. Of an index file one part at a time is in memory: the graph, or a view.
 pub fn run_lines<B: PathIndex, H: Shelf, K: Sink>(
     alloc: Global,
     engine: &mut Engine<B>,
@@ -237,6 +243,10 @@ pub fn run_lines<B: PathIndex, H: Shelf, K: Sink>(
             &mut output,
         ) {
             Ok(Next::Taken) => (),
+            Ok(Next::Saves) => {
+                output.flush(sink)?;
+                save::<B, K, Brand>(alloc, engine, sink, Blank::new(1))?;
+            }
             Ok(Next::AtBad) => return finish(Ending::Bad, &mut output, sink),
             Ok(Next::AtEnd) => {
                 let ending = ending_of(group.is_some(), output.is_refused());

@@ -1,5 +1,5 @@
 use Rattle.std.proofs.Common.{Err, ap, ◌∙◌}
-use Rattle.script_interpreter.proofs.NextLines.{taken_goes, bad_goes, bad_gathered, past_goes, end_goes}
+use Rattle.script_interpreter.proofs.NextLines.{taken_goes, save_goes, bad_goes, bad_gathered, past_goes, end_goes}
 use Rattle.script_interpreter.proofs.ReachedLemmas.{err_fact}
 use Rattle.script_interpreter.proofs.script.next_line.Goals as goal
 
@@ -7,6 +7,11 @@ pub returns-in-Ok-Done-clause-goes : goal.returns-in-Ok-Done-clause-goes
 returns-in-Ok-Done-clause-goes g c =
     taken_goes _ _ c.args.group.now c.take.new.group c.number.result c.line.result.now c.args.reader.now c.next.new.self _ _ _ c.args.output.now c.take.new.output c.requires.can
     (c.in-Ok-true.ensures.line c.in-Ok-true.field-0-test) c.line.ensures c.number.ensures (rw c.in-Ok-Done.field-0-is at c.in-Ok-Done.ensures.ok)
+
+pub returns-in-Ok-Due-clause-goes : goal.returns-in-Ok-Due-clause-goes
+returns-in-Ok-Due-clause-goes g c =
+    save_goes _ _ c.args.group.now c.take.new.group c.line.result.now c.args.reader.now c.next.new.self _ _ _ c.args.output.now c.take.new.output c.requires.can
+    (c.in-Ok-true.ensures.line c.in-Ok-true.field-0-test) c.line.ensures (rw c.in-Ok-Due.field-0-is at c.in-Ok-Due.ensures.ok)
 
 pub returns-in-Ok-Bad-clause-goes : goal.returns-in-Ok-Bad-clause-goes
 returns-in-Ok-Bad-clause-goes g c =

@@ -9,8 +9,10 @@ use Rattle.script_interpreter.specs.States.{State}
 use Rattle.script_interpreter.specs.Runs.{end_status}
 use Rattle.script_interpreter.specs.Rules.{rules_for}
 use Rattle.script_interpreter.specs.RunSteps.{progress}
-use Rattle.script_interpreter.proofs.ReachedLemmas.{reached-start, reached-more, reached-written, ran-over, ran-bad, prefix-part, prefix-bad, prefix-over, part_written, nothing_written, all_written, ok_fact, err_fact}
+use Rattle.script_interpreter.proofs.ReachedLemmas.{reached-start, reached-more, reached-written, ran-over, ran-bad, reached-saved, prefix-part, prefix-saved, prefix-bad, prefix-over, part_written, nothing_written, all_written, ok_fact, err_fact}
 use Rattle.script_interpreter.proofs.KeptGroups.{kept_some}
+use Rattle.script_interpreter.proofs.EngineCalls.{same_asked}
+use Rattle.script_interpreter.proofs.PieceLaws.{file_of, part_of}
 use Rattle.script_interpreter.proofs.script.run_lines.Goals as goal
 
 pub returns-in_err-reader-clause-part : goal.returns-in_err-reader-clause-part
@@ -57,6 +59,43 @@ lines-preserved g c =
       shelf_faults = search rules;
       sink_faults = search rules;
     }
+
+pub lines-preserved-in-Ok-Saves : goal.lines-preserved-in-Ok-Saves
+lines-preserved-in-Ok-Saves g c =
+    let step = c.in-Ok-Saves.ensures.goes c.lines.invariant.stands.group c.lines.invariant.stands.is_kept in
+    let goes = rw (c.in-Ok-Saves.field-0-is, c.in_ok-flush_if_due.ensures.kept, c.lines.invariant.printing) at step.3 in
+    let flushed = rw goes.4 at c.in_ok-flush-in-Ok-Saves.ensures.all in
+    let saved = reached-saved (reached-written c.lines.invariant.stands.reached _ _ c.in_ok-flush_if_due.ensures.written) goes.0 _ _ _ _ _ goes.1 goes.2 flushed (file_of _ _ _ _ goes.3 c.in_ok-save-in-Ok-Saves.ensures.all) in
+    rw (c.in_ok-flush-in-Ok-Saves.ensures.empty) (record {
+      stands = record {
+        group = step.0;
+        is_kept = step.1;
+        reached = rw (same_asked c.next_line.new.names.names _ _ c.in_ok-save-in-Ok-Saves.ensures.asked) saved;
+      };
+      printing = step.2 ∙ ap (λ o. o.printing) c.in_ok-flush_if_due.ensures.kept ∙ c.lines.invariant.printing;
+      ready = c.in_ok-save-in-Ok-Saves.ensures.ready;
+      can = rw c.in-Ok-Saves.field-0-is at c.in-Ok-Saves.ensures.can;
+      taken = (rw c.in-Ok-Saves.field-0-is at c.in-Ok-Saves.ensures.nearer).1;
+      files = search rules;
+      shelf_faults = search rules;
+      sink_faults = search rules;
+    })
+
+pub returns-in_err-flush-in-Ok-Saves-clause-part : goal.returns-in_err-flush-in-Ok-Saves-clause-part
+returns-in_err-flush-in-Ok-Saves-clause-part g c =
+    let step = c.in-Ok-Saves.ensures.goes c.lines.invariant.stands.group c.lines.invariant.stands.is_kept in
+    let goes = rw (c.in-Ok-Saves.field-0-is, c.in_ok-flush_if_due.ensures.kept, c.lines.invariant.printing) at step.3 in
+    let p = err_from_is_err_and c.from_residual-in_err-flush-in-Ok-Saves.result c.from_residual-in_err-flush-in-Ok-Saves.ensures.1 in
+    rw p.1 (prefix-part _ _ (reached-written c.lines.invariant.stands.reached _ _ c.in_ok-flush_if_due.ensures.written) _
+    (part_written _ _ _ (rw goes.4 at c.in_err-flush-in-Ok-Saves.ensures.part)))
+
+pub returns-in_err-save-in-Ok-Saves-clause-part : goal.returns-in_err-save-in-Ok-Saves-clause-part
+returns-in_err-save-in-Ok-Saves-clause-part g c =
+    let step = c.in-Ok-Saves.ensures.goes c.lines.invariant.stands.group c.lines.invariant.stands.is_kept in
+    let goes = rw (c.in-Ok-Saves.field-0-is, c.in_ok-flush_if_due.ensures.kept, c.lines.invariant.printing) at step.3 in
+    let flushed = rw goes.4 at c.in_ok-flush-in-Ok-Saves.ensures.all in
+    let p = err_from_is_err_and c.from_residual-in_err-save-in-Ok-Saves.result c.from_residual-in_err-save-in-Ok-Saves.ensures.1 in
+    rw p.1 (prefix-saved _ _ (reached-written c.lines.invariant.stands.reached _ _ c.in_ok-flush_if_due.ensures.written) goes.0 _ _ _ _ _ goes.1 goes.2 flushed (part_of _ _ _ _ goes.3 c.in_err-save-in-Ok-Saves.ensures.part))
 
 pub returns-in-Ok-AtBad-clause-ran : goal.returns-in-Ok-AtBad-clause-ran
 returns-in-Ok-AtBad-clause-ran g c =

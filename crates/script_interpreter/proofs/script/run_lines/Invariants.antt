@@ -21,5 +21,9 @@ invariant-lines g l = record {
   sink_faults : g.K.Sink.faults l.sink ≡ g.K.Sink.faults l.fn.sink;
 }
 
+-- the count of steps that is opened for a file
+abbrev pub ghosts-save : goal.ghosts-save
+ghosts-save g a = record { name = a.blank.name; parts = a.blank.parts }
+
 abbrev pub decreases-lines : goal.decreases-lines
 decreases-lines g l = SCRIPT_BYTES - l.reader.taken
