@@ -3,6 +3,8 @@ pub mod EngineCalls
 pub mod WalkCalls
 pub mod TripleCalls
 pub mod PieceLaws
+pub mod LabelledTriples
+pub mod LabelledRuns
 pub mod GroupLemmas
 pub mod KeptGroups
 pub mod TakenLemmas
