@@ -15,6 +15,8 @@ use Rattle.script_interpreter.specs.RunSteps.{progress, FirstIsBad, Writes}
 use Rattle.script_interpreter.specs.Pieces.{Wrote, WrotePart}
 use Rattle.script_interpreter.specs.OpenGroups.{IsKeptAs}
 use Rattle.script_interpreter.specs.declared.group.OpenGroup.{OpenGroup}
+use Rattle.index_file.specs.WholeFiles.{HasLabels}
+use Rattle.script_interpreter.proofs.LabelledRuns.{run_labels}
 use Rattle.script_interpreter.proofs.PrefixLemmas.{prefix_of, prefix_of_taken}
 
 -- the lines of the one text are these lines and then those of the other, if the texts are observable
@@ -33,11 +35,15 @@ pub record Reached (rules : Rules) (first : State) (before after old new : Optio
   pub written : Appends old new prefix
   pub printed_is : printed ≡ prefix ++ gathered
 
--- the same, where the code has the group that isn't ended
+-- the same, where the code has the group that isn't ended and the labels of the first graph are labels
 pub record Stands (rules : Rules) (first : State) (before after old new : Option (List ℕ)) (gathered : List ℕ) (s : State) (kept : Option OpenGroup) (refused : Bool) (r : ReaderState) : Type 0 where
   pub group : Option Group
   pub is_kept : IsKeptAs group kept
-  pub reached : Reached rules first before after old new gathered (progress s group refused r)
+  pub reached : HasLabels first.graph → Reached rules first before after old new gathered (progress s group refused r)
+
+-- The labels of the graph that is reached are labels too.
+pub labels_reached : {rules : Rules} {first : State} {a b old new : Option (List ℕ)} {out : List ℕ} {p : Progress} → Reached rules first a b old new out p → HasLabels first.graph → HasLabels p.state.graph
+labels_reached {rules} {first} {p = p} r labels = run_labels rules first r.lines r.printed p r.takes labels
 
 takes_push : {rules : Rules} (p : Progress) (lines : List Line) (printed : List ℕ) (q : Progress) (l : Line) (text : List ℕ) (r : Progress)
     → RunsLines rules p lines printed q → RunsLine rules q l text r → RunsLines rules p (lines ++ l ∷ []) (printed ++ text) r

@@ -159,13 +159,12 @@ pub(crate) fn save<B: PathIndex, K: Sink, L: Ledger>(
     requires parts { blank.parts ≡ L.parts }
     requires some { 0 < blank.parts }
     requires ready { IsOpen (by_meaning B.meaning engine.old) }
-    requires labels { HasLabels (graph_in engine.old.opened) }
     ensures ready { IsOpen (by_meaning B.meaning engine.new) }
     ensures asked { KeepsAllButViews (by_meaning B.meaning engine.old) (by_meaning B.meaning engine.new) }
-    ensures all { OnOk result (Wrote (IsSaved (graph_in engine.old.opened) (kept_in (by_meaning B.meaning engine.old)))
-        (K.written sink.old) (K.written sink.new)) }
-    ensures part { OnErr result (WrotePart (IsSaved (graph_in engine.old.opened) (kept_in (by_meaning B.meaning engine.old)))
-        (K.written sink.old) (K.written sink.new)) }
+    ensures all { HasLabels (graph_in engine.old.opened) → OnOk result (Wrote (IsSaved (graph_in engine.old.opened)
+        (kept_in (by_meaning B.meaning engine.old))) (K.written sink.old) (K.written sink.new)) }
+    ensures part { HasLabels (graph_in engine.old.opened) → OnErr result (WrotePart (IsSaved (graph_in engine.old.opened)
+        (kept_in (by_meaning B.meaning engine.old))) (K.written sink.old) (K.written sink.new)) }
     ensures sink { IsErrOf result Stop.Sink → MayHaveRisen (K.faults sink.old) (K.faults sink.new) }
     ensures no_sink { result ≢ Err Stop.Sink → K.faults sink.new ≡ K.faults sink.old }
     ensures no_shelf { result ≢ Err Stop.Shelf }
