@@ -5,7 +5,8 @@ ghost use Rattle.graph_load.specs.Loads.{Loads, LoadsNamed};
 ghost use Rattle.graph_load.specs.LoadSteps.{TellsOutcome};
 ghost use Rattle.workload.specs.MadeTexts.{made_graph_text};
 ghost use Rattle.index_api.specs.IndexKinds.{kinds_of};
-ghost use Rattle.pathindex_core.specs.Engines.{IsSound, by_meaning};
+ghost use Rattle.index_file.specs.WholeFiles.{HasLabels};
+ghost use Rattle.pathindex_core.specs.Engines.{IsSound, by_meaning, graph_in};
 ghost use Rattle.script_interpreter.specs.declared.printing.Printing.TheVariants.{Brief};
 ghost use Rattle.script_interpreter.specs.EngineStates.{state_of, IsOpen, IsIn};
 ghost use Rattle.script_interpreter.specs.Rules.{rules_for};
@@ -73,6 +74,7 @@ fn run_script<B: PathIndex, K: Sink>(
     engine: &mut Engine<B>,
     sink: &mut K,
 ) -> Status
+    requires labels { HasLabels graph.graph }
     requires closed { engine.old.opened ≡ None }
     requires sound { IsSound (by_meaning B.meaning engine.old) }
     ensures sound { IsSound (by_meaning B.meaning engine.new) }
@@ -96,6 +98,7 @@ fn run_text<B: PathIndex, K: Sink>(
     engine: &mut Engine<B>,
     sink: &mut K,
 ) -> Status
+    requires labels { HasLabels graph.graph }
     requires closed { engine.old.opened ≡ None }
     requires sound { IsSound (by_meaning B.meaning engine.old) }
     ensures sound { IsSound (by_meaning B.meaning engine.new) }
@@ -117,6 +120,7 @@ fn run_open<B: PathIndex, K: Sink>(
     names: Names,
     sink: &mut K,
 ) -> Status
+    requires labels { HasLabels (graph_in engine.old.opened) }
     requires ready { IsOpen (by_meaning B.meaning engine.old) }
     ensures sound { IsSound (by_meaning B.meaning engine.new) }
     ensures does { RunsScript (rules_for Brief) (state_of B.meaning engine.old names.names) (Some script.now) (K.written sink.old)

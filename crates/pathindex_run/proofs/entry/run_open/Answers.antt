@@ -13,7 +13,7 @@ pub returns-in-Ok-clause-does : goal.returns-in-Ok-clause-does
 returns-in-Ok-clause-does g c kinds first =
     let found = rw c.in-Ok-true.field-0-test at c.in-Ok-true.ensures.found in
     rw c.status_of.ensures (script_meets (settings_value c.args.settings.now) kinds (g.H.Shelf.files c.args.shelf.now) (state_in (by_meaning g.B.PathIndex.meaning c.args.engine.now) c.args.names.names) _ _ _ _ c.requires.begins first
-    (observable_ran (state_in (by_meaning g.B.PathIndex.meaning c.args.engine.now) c.args.names.names) c.args.settings.now.script.now (g.H.Shelf.files c.args.shelf.now) (g.H.Shelf.left c.open.new.self) _ _ c.in-Ok.ending _ found c.in-Ok.ensures.ran))
+    (observable_ran (state_in (by_meaning g.B.PathIndex.meaning c.args.engine.now) c.args.names.names) (settings_value c.args.settings.now).graph c.args.settings.now.script.now (g.H.Shelf.files c.args.shelf.now) (g.H.Shelf.left c.open.new.self) _ _ c.in-Ok.ending _ c.requires.begins found c.in-Ok.ensures.ran))
 
 pub returns-in-Ok-clause-complete : goal.returns-in-Ok-clause-complete
 returns-in-Ok-clause-complete g c =
@@ -21,25 +21,25 @@ returns-in-Ok-clause-complete g c =
     let files = g.H.Shelf.files c.args.shelf.now in
     let status : HasStatus (runs (settings_value c.args.settings.now)) files (g.H.Shelf.faults c.args.shelf.now) (g.H.Shelf.faults c.run_lines.new.shelf) (g.K.Sink.faults c.args.sink.now) (g.K.Sink.faults c.run_lines.new.sink) (code_of c.status_of.result) = search rules in
     script_completes (settings_value c.args.settings.now) files (state_in (by_meaning g.B.PathIndex.meaning c.args.engine.now) c.args.names.names) (g.K.Sink.written c.args.sink.now) (g.K.Sink.written c.run_lines.new.sink) _ _ _ _ (code_of c.status_of.result) (IsIn (by_meaning g.B.PathIndex.meaning c.run_lines.new.engine))
-    (rw c.status_of.ensures (observable_ran (state_in (by_meaning g.B.PathIndex.meaning c.args.engine.now) c.args.names.names) c.args.settings.now.script.now files (g.H.Shelf.left c.open.new.self) _ _ c.in-Ok.ending _ found c.in-Ok.ensures.ran)) status
+    (rw c.status_of.ensures (observable_ran (state_in (by_meaning g.B.PathIndex.meaning c.args.engine.now) c.args.names.names) (settings_value c.args.settings.now).graph c.args.settings.now.script.now files (g.H.Shelf.left c.open.new.self) _ _ c.in-Ok.ending _ c.requires.begins found c.in-Ok.ensures.ran)) status
 
 pub returns-in-Err-Shelf-clause-does : goal.returns-in-Err-Shelf-clause-does
 returns-in-Err-Shelf-clause-does g c kinds first =
     let found = rw c.in-Ok-true.field-0-test at c.in-Ok-true.ensures.found in
     script_meets (settings_value c.args.settings.now) kinds (g.H.Shelf.files c.args.shelf.now) (state_in (by_meaning g.B.PathIndex.meaning c.args.engine.now) c.args.names.names) _ _ 5 _ c.requires.begins first
-    (observable_part (state_in (by_meaning g.B.PathIndex.meaning c.args.engine.now) c.args.names.names) c.args.settings.now.script.now (g.H.Shelf.files c.args.shelf.now) (g.H.Shelf.left c.open.new.self) _ _ 5 _ found (omega arith) c.in-Err-Shelf.ensures.part)
+    (observable_part (state_in (by_meaning g.B.PathIndex.meaning c.args.engine.now) c.args.names.names) (settings_value c.args.settings.now).graph c.args.settings.now.script.now (g.H.Shelf.files c.args.shelf.now) (g.H.Shelf.left c.open.new.self) _ _ 5 _ c.requires.begins found (omega arith) c.in-Err-Shelf.ensures.part)
 
 pub returns-in-Err-Sink-clause-does : goal.returns-in-Err-Sink-clause-does
 returns-in-Err-Sink-clause-does g c kinds first =
     let found = rw c.in-Ok-true.field-0-test at c.in-Ok-true.ensures.found in
     script_meets (settings_value c.args.settings.now) kinds (g.H.Shelf.files c.args.shelf.now) (state_in (by_meaning g.B.PathIndex.meaning c.args.engine.now) c.args.names.names) _ _ 6 _ c.requires.begins first
-    (observable_part (state_in (by_meaning g.B.PathIndex.meaning c.args.engine.now) c.args.names.names) c.args.settings.now.script.now (g.H.Shelf.files c.args.shelf.now) (g.H.Shelf.left c.open.new.self) _ _ 6 _ found (omega arith) c.in-Err-Sink.ensures.part)
+    (observable_part (state_in (by_meaning g.B.PathIndex.meaning c.args.engine.now) c.args.names.names) (settings_value c.args.settings.now).graph c.args.settings.now.script.now (g.H.Shelf.files c.args.shelf.now) (g.H.Shelf.left c.open.new.self) _ _ 6 _ c.requires.begins found (omega arith) c.in-Err-Sink.ensures.part)
 
 pub returns-in-Err-Memory-clause-does : goal.returns-in-Err-Memory-clause-does
 returns-in-Err-Memory-clause-does g c kinds first =
     let found = rw c.in-Ok-true.field-0-test at c.in-Ok-true.ensures.found in
     script_meets (settings_value c.args.settings.now) kinds (g.H.Shelf.files c.args.shelf.now) (state_in (by_meaning g.B.PathIndex.meaning c.args.engine.now) c.args.names.names) _ _ 7 _ c.requires.begins first
-    (observable_part (state_in (by_meaning g.B.PathIndex.meaning c.args.engine.now) c.args.names.names) c.args.settings.now.script.now (g.H.Shelf.files c.args.shelf.now) (g.H.Shelf.left c.open.new.self) _ _ 7 _ found (omega arith) c.in-Err-Memory.ensures.part)
+    (observable_part (state_in (by_meaning g.B.PathIndex.meaning c.args.engine.now) c.args.names.names) (settings_value c.args.settings.now).graph c.args.settings.now.script.now (g.H.Shelf.files c.args.shelf.now) (g.H.Shelf.left c.open.new.self) _ _ 7 _ c.requires.begins found (omega arith) c.in-Err-Memory.ensures.part)
 
 pub returns-in-Ok-false-clause-status : goal.returns-in-Ok-false-clause-status
 returns-in-Ok-false-clause-status g c =
