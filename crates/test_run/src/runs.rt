@@ -519,6 +519,28 @@ fn an_index_file_is_printed(rt: HostRuntime) {
     assert!(rt; ends(rt.alloc(), in_group, "bad 2\n", 4));
 }
 
+/// Whether the file of one node is written up to where that call of the sink fails.
+fn is_cut_short(alloc: Global, failing: u32, output: &str) -> bool {
+    let saves = Given {
+        words: &["s", "--k", "0"],
+        failing: (0, failing),
+        ..script("node a\nsave\nnode b\n")
+    };
+    ends(alloc, saves, output, 6)
+}
+
+// The sink moves 3 bytes at a time. The fourth call begins the lines of the graph, and the twentieth the view.
+#[test]
+fn a_failing_write_cuts_an_index_file_short(rt: HostRuntime) {
+    assert!(rt; is_cut_short(rt.alloc(), 4, "added n0\n"));
+    assert!(rt; is_cut_short(rt.alloc(), 5, "added n0\npat"));
+    let graph = "added n0\npathindex 1\ngiven 1 k 0\nlive a\nedges 0\nviews 1\n";
+    assert!(rt; is_cut_short(rt.alloc(), 20, graph));
+    let part =
+        "added n0\npathindex 1\ngiven 1 k 0\nlive a\nedges 0\nviews 1\nvie";
+    assert!(rt; is_cut_short(rt.alloc(), 21, part));
+}
+
 #[test]
 fn real_files_are_read(rt: HostRuntime) -> Result<(), Fail> {
     fs::write(&rt, "script", "node a\n")?;
