@@ -199,7 +199,7 @@ impl Held {
         }
     }
 
-    /// Copies the list that was made last, as `copy_nodes` does.
+    /// Copies the text that was made last, as `copy_nodes` does.
     pub fn copy_text(&mut self, first: usize, out: &mut [u8]) -> usize
         ensures { CopiesFound found_text first self.old self.new out.old out.new result }
     {

@@ -49,7 +49,7 @@ fn refuses(rt: &impl Abort, held: &mut Held) {
     assert!(rt; held.call(11, 3, 0, KNOWN) == 5);
     assert!(rt; held.call(12, 32, 0, b"iri[") == 6);
     assert!(rt; held.call(11, 99, 0, KNOWN) == 8);
-    assert!(rt; held.call(17, 0, 0, b"") == 8);
+    assert!(rt; held.call(18, 0, 0, b"") == 8);
     assert!(rt; held.call(8, 0, 0, b"") == 8);
 }
 
