@@ -49,7 +49,8 @@ test:
 	tools/compare_examples.sh $(PROGRAM)/out/pathindex_main
 	@mkdir -p bin
 	@if command -v cc >/dev/null && command -v ld >/dev/null && command -v objcopy >/dev/null; then \
-		tools/build_archive.sh $(LIBRARY)/out/libpathindex_c.a && tools/build_library.sh $(LIBRARY)/out/libpathindex_c.a $(HEAP) bin && tools/test_library.sh; \
+		tools/build_archive.sh $(LIBRARY)/out/libpathindex_c.a && tools/build_library.sh $(LIBRARY)/out/libpathindex_c.a $(HEAP) bin \
+			&& tools/test_library.sh $(PROGRAM)/out/pathindex_main; \
 	else echo "make test: the library isn't tested, since cc, ld or objcopy is missing; apt-get install gcc binutils brings them"; fi
 
 library:

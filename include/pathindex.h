@@ -16,7 +16,7 @@
  * Link with libpathindex.a or libpathindex.so, which `make library` builds, and with nothing else.
  *
  * CODES. A call that returns int returns one of enum pathindex_code. Unless that is PATHINDEX_OK, the graph, its indexes, the answers, the
- * walk and the list that were found last are as before. No call prints, ends the process or waits, and there is no state outside
+ * walk and the text that were found last are as before. No call prints, ends the process or waits, and there is no state outside
  * a handle: nothing to set up, and nothing to clean up but handles.
  *
  * MEMORY. It is taken by malloc and realloc, which must be of one allocator and align blocks as C demands, and given back by free.
@@ -140,11 +140,12 @@ size_t pathindex_walk(pathindex *p, size_t first, uint32_t *nodes, size_t room);
  * *shows. It shares no code with pathindex_why. */
 int pathindex_check(pathindex *p, uint32_t node, const uint32_t *walk, size_t count, const void *text, size_t length, int *shows);
 
-/* Lists, as the program prints them: the blocks of an index, each with its nodes; the sizes of the graph and of the indexes. The
- * number of bytes is written to *length, which may be NULL. pathindex_text copies the list that was made last, from the byte `first` on,
- * at most `room` bytes, and says how many. */
+/* Texts, as the program prints them: the blocks of an index, each with its nodes; the sizes of the graph and of the indexes; the graph
+ * and its indexes as an index file, which `pathindex --check` reads. The number of bytes is written to *length, which may be NULL.
+ * pathindex_text copies the text that was made last, from the byte `first` on, at most `room` bytes, and says how many. */
 int pathindex_extents(pathindex *p, uint32_t index, uint64_t *length);
 int pathindex_sizes(pathindex *p, uint64_t *length);
+int pathindex_save(pathindex *p, uint64_t *length);
 size_t pathindex_text(pathindex *p, size_t first, void *bytes, size_t room);
 
 /* Drops the indexes of a kind: PATHINDEX_A, PATHINDEX_B, PATHINDEX_ONE or PATHINDEX_FB. */

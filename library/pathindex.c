@@ -35,7 +35,8 @@ enum call {
     WHY = 13,
     EXTENTS = 14,
     SIZES = 15,
-    FORGET = 16
+    FORGET = 16,
+    SAVE = 17
 };
 
 /* The numbers of what is told (`told` there). */
@@ -143,6 +144,8 @@ int pathindex_extents(pathindex *p, uint32_t index, uint64_t *length) {
 }
 
 int pathindex_sizes(pathindex *p, uint64_t *length) { return with_count(p, call(p, SIZES, 0, 0, NULL, 0), length); }
+
+int pathindex_save(pathindex *p, uint64_t *length) { return with_count(p, call(p, SAVE, 0, 0, NULL, 0), length); }
 
 size_t pathindex_text(pathindex *p, size_t first, void *bytes, size_t room) {
     return p->held && room ? pathindex_c_text(p->held, first, (uint8_t *)bytes, room) : 0;

@@ -98,6 +98,7 @@ _CALLS = {
     "check": (c_int, [_H, c_uint32, POINTER(c_uint32), c_size_t, *_TEXT, POINTER(c_int)]),
     "extents": (c_int, [_H, c_uint32, POINTER(c_uint64)]),
     "sizes": (c_int, [_H, POINTER(c_uint64)]),
+    "save": (c_int, [_H, POINTER(c_uint64)]),
     "text": (c_size_t, [_H, c_size_t, c_char_p, c_size_t]),
     "forget": (c_int, [_H, c_uint32]),
     "node_count": (c_uint64, [_H]),
@@ -312,6 +313,17 @@ class Pathindex:
             name = "data" if words[0] == "nodes" else words[0]
             sizes[name] = Size(int(words[-3]), int(words[-1]))
         return sizes
+
+    def save_text(self):
+        """The graph and its indexes as an index file, which `pathindex --check` reads."""
+        length = c_uint64(0)
+        self._call("save", byref(length))
+        return self._list(length)
+
+    def save(self, path):
+        """Writes the graph and its indexes to a file, as an index file."""
+        with open(path, "w", encoding="utf-8", newline="\n") as file:
+            file.write(self.save_text())
 
     def forget(self, kind):
         """Drops the indexes of a kind: 'a', 'b', 'one' or 'fb'."""

@@ -92,7 +92,7 @@ pub unsafe extern "C" fn pathindex_c_walk(at: *mut u8, first: usize, nodes: &mut
     held.copy_walk(first, nodes)
 }
 
-/// `Held::copy_text`: copies the list that was made last.
+/// `Held::copy_text`: copies the text that was made last.
 #[unsafe(no_mangle)]
 pub unsafe extern "C" fn pathindex_c_text(at: *mut u8, first: usize, bytes: &mut [u8]) -> usize
     ghost value: { Held }

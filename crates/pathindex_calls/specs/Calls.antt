@@ -11,13 +11,13 @@ use Rattle.pathindex_session.specs.TextAnswers.{SpellsPath, SpellsBranch}
 use Rattle.pathindex_calls.specs.declared.held.Held.{Held}
 use Rattle.pathindex_calls.specs.declared.replies.Reply.{Reply}
 use Rattle.pathindex_calls.specs.declared.requests.Command.{Command}
-use Rattle.pathindex_calls.specs.declared.requests.Command.TheVariants.{Node, Link, Unlink, Drop, Relabel, Begin, End, Cancel, Insert, Delete, Path, Branch, Why, Extents, Sizes, Forget}
+use Rattle.pathindex_calls.specs.declared.requests.Command.TheVariants.{Node, Link, Unlink, Drop, Relabel, Begin, End, Cancel, Insert, Delete, Path, Branch, Why, Extents, Sizes, Save, Forget}
 use Rattle.pathindex_calls.specs.declared.requests.Request.{Request}
 use Rattle.pathindex_calls.specs.declared.requests.Request.TheVariants.{Open, Ask}
 use Rattle.pathindex_calls.specs.Requests.{request_at}
 use Rattle.pathindex_calls.specs.Replies.{said, of_open, misused}
 use Rattle.pathindex_calls.specs.Changes.{Inserts, Deletes, ReadsTriple, Steps, Labels, Begins, Ends, Cancels}
-use Rattle.pathindex_calls.specs.Questions.{Asks, Explains, Checks, Lists, Measures, Forgets}
+use Rattle.pathindex_calls.specs.Questions.{Asks, Explains, Checks, Lists, Measures, Saves, Forgets}
 
 -- A command was carried out, with this text, on a session and the group of steps that is begun.
 abbrev pub Obeys : Command → List ℕ → SessionOf → Option (List Step) → SessionOf → Option (List Step) → Reply → Type 0
@@ -36,6 +36,7 @@ Obeys (Branch via) text s g t h reply = (h ≡ g) × Asks (SpellsBranch text) te
 Obeys (Why u) text s g t h reply = (h ≡ g) × Explains text u s t reply
 Obeys (Extents via) text s g t h reply = (h ≡ g) × Lists via s t reply
 Obeys Sizes text s g t h reply = (h ≡ g) × Measures s t reply
+Obeys Save text s g t h reply = (h ≡ g) × Saves s t reply
 Obeys (Forget kind) text s g t h reply = (h ≡ g) × Forgets kind s t reply
 
 -- A session was opened with the graph of the text, or a line of it is refused, or memory ran out.

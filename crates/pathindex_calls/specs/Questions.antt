@@ -11,6 +11,8 @@ use Rattle.index_api.specs.declared.answers.How.{How}
 use Rattle.index_api.specs.IndexKinds.{is_kept, kinds_of, has_kind}
 use Rattle.px_base.specs.declared.allocation.Memory.{Memory}
 use Rattle.extent_report.specs.PrintedLists.{ListsIndex, ListsSizes}
+use Rattle.index_file.specs.SavedIndexes.{SavesFile}
+use Rattle.index_file.specs.WholeFiles.{HasLabels, IsIndexFile}
 use Rattle.pathindex_core.specs.Engines.{kept_in}
 use Rattle.pathindex_core.specs.Calls.{IsForgotten, KeepsAllButViews}
 use Rattle.pathindex_session.specs.declared.errors.QueryError.{QueryError}
@@ -66,6 +68,19 @@ pub record Measures (s t : SessionOf) (reply : Reply) : Type 0 where
   pub answer : Result ⊤ Memory
   pub reply_is : reply ≡ of_sizes answer (length t.text)
   pub measured : OnOk answer (ListsSizes (graph_of s) (kept_in (engine_in s)) t.text)
+  pub keeps : KeepsAllButViews (engine_in s) (engine_in t)
+  pub names : t.names ≡ s.names
+  pub err : OnErr answer (t.text ≡ s.text)
+  pub nodes : t.nodes ≡ s.nodes
+  pub walk : t.walk ≡ s.walk
+
+-- The index file of the graph and of its indexes was made.
+pub record Saves (s t : SessionOf) (reply : Reply) : Type 0 where
+  pub answer : Result ⊤ Memory
+  pub reply_is : reply ≡ of_sizes answer (length t.text)
+  pub saved : OnOk answer (SavesFile (graph_of s) (kept_in (engine_in s)) t.text)
+  -- one file alone is spelled so, if each node's label is one
+  pub whole : OnOk answer (HasLabels (graph_of s) → IsIndexFile (graph_of s) (kept_in (engine_in s)) t.text)
   pub keeps : KeepsAllButViews (engine_in s) (engine_in t)
   pub names : t.names ≡ s.names
   pub err : OnErr answer (t.text ≡ s.text)

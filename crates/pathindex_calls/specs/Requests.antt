@@ -6,7 +6,7 @@ use Rattle.index_api.specs.declared.kinds.Via.{Via}
 use Rattle.index_api.specs.declared.kinds.Via.TheVariants as via
 use Rattle.pathindex_session.specs.declared.opening.Indexes.{Indexes}
 use Rattle.pathindex_calls.specs.declared.requests.Command.{Command}
-use Rattle.pathindex_calls.specs.declared.requests.Command.TheVariants.{Node, Link, Unlink, Drop, Relabel, Begin, End, Cancel, Insert, Delete, Path, Branch, Why, Extents, Sizes, Forget}
+use Rattle.pathindex_calls.specs.declared.requests.Command.TheVariants.{Node, Link, Unlink, Drop, Relabel, Begin, End, Cancel, Insert, Delete, Path, Branch, Why, Extents, Sizes, Save, Forget}
 use Rattle.pathindex_calls.specs.declared.requests.Request.{Request}
 use Rattle.pathindex_calls.specs.declared.requests.Request.TheVariants.{Open, Ask}
 
@@ -96,4 +96,5 @@ request_at call a b =
     else if nat_eq call 14 then extents_at a
     else if nat_eq call 15 then Some (Ask Sizes)
     else if nat_eq call 16 then forget_at a
+    else if nat_eq call 17 then Some (Ask Save)
     else change_at call a b

@@ -2,7 +2,7 @@
 ghost use Rattle.pathindex_calls.specs.Calls.{Obeys};
 
 use crate::changes::{begin, cancel, delete, end, insert, take_node, take_relabel, take_step};
-use crate::questions::{branch, extents, forget, path, sizes, why};
+use crate::questions::{branch, extents, forget, path, save, sizes, why};
 use crate::replies::Reply;
 use crate::requests::Command;
 use graph_update::{Change, Step};
@@ -35,6 +35,7 @@ pub(crate) fn obey(
         Command::Why(n) => why(alloc, session, n, text),
         Command::Extents(via) => extents(alloc, session, via),
         Command::Sizes => sizes(alloc, session),
+        Command::Save => save(alloc, session),
         Command::Forget(kind) => forget(session, kind),
     }
 }

@@ -139,7 +139,7 @@ impl Held {
     /// forward and backward index, 4 to keep the bounded ones too. Calls 1 to 5 add a node, link, unlink, drop and relabel; 6 to
     /// 8 begin, end and cancel a group of these; 9 and 10 insert and delete a triple; 11 and 12 ask a path and a branching query
     /// through `a`; 13 asks why node `a` answers; 14 lists the blocks of index `a`, and 15 the sizes; 16 drops the indexes of
-    /// kind `a`.
+    /// kind `a`; 17 makes the index file of the graph and of the indexes.
     pub fn call(&mut self, call: u32, a: u32, b: u32, text: &[u8]) -> u32
         ensures { IsCalled call a b text.now self.old self.new result }
     {
@@ -199,7 +199,7 @@ impl Held {
         }
     }
 
-    /// Copies the list that was made last, as `copy_nodes` does.
+    /// Copies the text that was made last, as `copy_nodes` does.
     pub fn copy_text(&mut self, first: usize, out: &mut [u8]) -> usize
         ensures { CopiesFound found_text first self.old self.new out.old out.new result }
     {

@@ -1,6 +1,6 @@
 // Questions to a session.
 ghost use Rattle.pathindex_session.specs.TextAnswers.{SpellsPath, SpellsBranch};
-ghost use Rattle.pathindex_calls.specs.Questions.{Asks, Explains, Checks, Lists, Measures, Forgets};
+ghost use Rattle.pathindex_calls.specs.Questions.{Asks, Explains, Checks, Lists, Measures, Saves, Forgets};
 
 use crate::replies::{Reply, of_answer, of_check, of_forget, of_list, of_sizes, of_why};
 use index_api::{Kind, Via};
@@ -54,6 +54,13 @@ pub(crate) fn sizes(alloc: Global, session: &mut Session) -> Reply
     ensures { Measures session.old session.new result }
 {
     of_sizes(session.sizes(alloc), session.text())
+}
+
+/// Makes the index file of the graph and of the indexes.
+pub(crate) fn save(alloc: Global, session: &mut Session) -> Reply
+    ensures { Saves session.old session.new result }
+{
+    of_sizes(session.save(alloc), session.text())
 }
 
 /// Drops the index of a kind.

@@ -39,6 +39,8 @@ pub(crate) enum Command {
     Extents(Via),
     /// The sizes of the graph and of the indexes.
     Sizes,
+    /// The index file of the graph and of the indexes.
+    Save,
     /// The indexes of this kind are kept no longer.
     Forget(Kind),
 }
@@ -181,6 +183,7 @@ pub(crate) fn request_at(call: u32, a: u32, b: u32) -> Option<Request>
         14 => extents_at(a),
         15 => Some(Request::Ask(Command::Sizes)),
         16 => forget_at(a),
+        17 => Some(Request::Ask(Command::Save)),
         _ => change_at(call, a, b),
     }
 }

@@ -1,9 +1,10 @@
 -- What follows for a session from what the parser and the engine answer.
-use Rattle.std.proofs.Common.{◌≡◌, ◌≢◌, ◌↔◌, ℕ, Bool, false, List, Option, Some, None, Result, Ok, Err, IfOk, IsTrue, refl, sym, subst}
+use Rattle.std.proofs.Common.{◌≡◌, ◌≢◌, ◌↔◌, ◌⊎◌, inl, inr, ℕ, Bool, false, List, Option, Some, None, Result, Ok, Err, IfOk, IsTrue, refl, sym, subst}
 use Rattle.std.specs.Prelude.{IsErrOf}
 use Rattle.graph_spec.specs.Graphs.{is_live}
 use Rattle.graph_spec.specs.Shapes.{shape_of}
-use Rattle.graph_spec.specs.declared.refusal.Refusal.TheVariants.{Limit, NoIndex, NoNode}
+use Rattle.graph_spec.specs.declared.refusal.Refusal.{Refusal}
+use Rattle.graph_spec.specs.declared.refusal.Refusal.TheVariants.{Limit, NoIndex, NoNode, NoEdge}
 use Rattle.path_spec.specs.Trees.{Expr}
 use Rattle.path_query.specs.Parsed.{Spells}
 use Rattle.path_query.specs.declared.expr.ExprError.{ExprError}
@@ -23,6 +24,10 @@ use Rattle.pathindex_session.specs.Asked.{of_text, of_ask}
 use Rattle.pathindex_session.specs.Sessions.{SessionOf, engine_in, graph_of}
 use Rattle.pathindex_session.specs.TextAnswers.{IsAskedHow, IsExplained, AnswersText, ExplainsText, ChecksText}
 
+-- a refusal for the limit is no other
+limit_alone : {X : Type 0} (r : Refusal) → Err {A = X} (Refused Limit) ≡ Err (Refused r) → r ≡ Limit
+limit_alone r e = (let f : Limit ≡ r = cc in sym f)
+
 -- a text that is no query
 pub text_failed : {X : Type 0} (spells : Query → Type 0) (past : Bool) (s t : SessionOf) (via : Via) (parsed : Result X ExprError) (error : ExprError) → parsed ≡ Err error → ((parsed ≡ Err text_error.Limit) ↔ IsTrue past)
     → (IsErrOf parsed text_error.Syntax → (q : Query) → spells q → ⊥) → AnswersText spells past s t via (Err (of_text error))
@@ -31,6 +36,7 @@ text_failed spells past s t via parsed text_error.Limit is limit syntax = record
   limit = (λ _. limit.0 is, λ _. refl);
   no_index = λ e. absurd (cc);
   missing = λ m how e. cc;
+  only = λ r e. inl (limit_alone r e);
   syntax = λ e. absurd (cc);
 }
 text_failed spells past s t via parsed text_error.Syntax is limit syntax = record {
@@ -38,6 +44,7 @@ text_failed spells past s t via parsed text_error.Syntax is limit syntax = recor
   limit = (λ e. absurd (cc), λ p. absurd (let e = limit.1 p in cc));
   no_index = λ e. absurd (cc);
   missing = λ m how e. cc;
+  only = λ r e. absurd (cc);
   syntax = λ e. syntax (subst (λ r. IsErrOf r text_error.Syntax) (sym is) refl);
 }
 text_failed spells past s t via parsed text_error.Memory is limit syntax = record {
@@ -45,8 +52,16 @@ text_failed spells past s t via parsed text_error.Memory is limit syntax = recor
   limit = (λ e. absurd (cc), λ p. absurd (let e = limit.1 p in cc));
   no_index = λ e. absurd (cc);
   missing = λ m how e. cc;
+  only = λ r e. absurd (cc);
   syntax = λ e. absurd (cc);
 }
+
+-- a query is refused for a missing index alone
+missing_alone : (s t : SessionOf) (via : Via) (q : Query) (error : QueryError) (r : Refusal) → Err {A = How} error ≡ Err (Refused r) → IsAskedHow s t via q (Err error) → r ≡ NoIndex
+missing_alone s t via q error NoIndex e asked = refl
+missing_alone s t via q error NoNode e asked = absurd (let f = asked.no_other (λ g. cc) error refl in cc)
+missing_alone s t via q error NoEdge e asked = absurd (let f = asked.no_other (λ g. cc) error refl in cc)
+missing_alone s t via q error Limit e asked = absurd (let f = asked.no_other (λ g. cc) error refl in cc)
 
 -- a text that is one
 pub text_asked : {X : Type 0} (spells : Query → Type 0) (past : Bool) (s t : SessionOf) (via : Via) (parsed : Result X ExprError) (x : X) (q : Query) (result : Result How QueryError)
@@ -56,6 +71,7 @@ text_asked spells past s t via parsed x q (Ok how) is limit spelled asked = reco
   limit = (λ e. absurd (cc), λ p. absurd (let e = limit.1 p in cc));
   no_index = λ e. absurd (cc);
   missing = λ m h e. (let f = asked.no_index.1 m in cc);
+  only = λ r e. absurd (cc);
   syntax = λ e. absurd (cc);
 }
 text_asked spells past s t via parsed x q (Err error) is limit spelled asked = record {
@@ -63,6 +79,7 @@ text_asked spells past s t via parsed x q (Err error) is limit spelled asked = r
   limit = (λ e. absurd (let f = asked.no_other (λ g. cc) error refl in cc), λ p. absurd (let e = limit.1 p in cc));
   no_index = asked.no_index.0;
   missing = λ m h e. cc;
+  only = λ r e. inr (missing_alone s t via q error r e asked);
   syntax = λ e. absurd (let f = asked.no_other (λ g. cc) error refl in cc);
 }
 
@@ -87,6 +104,7 @@ explain_failed text past s t v parsed text_error.Limit is limit syntax = record 
   limit = (λ _. limit.0 is, λ _. refl);
   no_node = λ e. absurd (cc);
   live = λ off b e. cc;
+  only = λ r e. inl (limit_alone r e);
   syntax = λ e. absurd (cc);
 }
 explain_failed text past s t v parsed text_error.Syntax is limit syntax = record {
@@ -94,6 +112,7 @@ explain_failed text past s t v parsed text_error.Syntax is limit syntax = record
   limit = (λ e. absurd (cc), λ p. absurd (let e = limit.1 p in cc));
   no_node = λ e. absurd (cc);
   live = λ off b e. cc;
+  only = λ r e. absurd (cc);
   syntax = λ e. syntax (subst (λ r. IsErrOf r text_error.Syntax) (sym is) refl);
 }
 explain_failed text past s t v parsed text_error.Memory is limit syntax = record {
@@ -101,6 +120,7 @@ explain_failed text past s t v parsed text_error.Memory is limit syntax = record
   limit = (λ e. absurd (cc), λ p. absurd (let e = limit.1 p in cc));
   no_node = λ e. absurd (cc);
   live = λ off b e. cc;
+  only = λ r e. absurd (cc);
   syntax = λ e. absurd (cc);
 }
 
@@ -111,6 +131,7 @@ not_explained text past s t v parsed x is limit off = record {
   limit = (λ e. absurd (cc), λ p. absurd (let e = limit.1 p in cc));
   no_node = λ _. off;
   live = λ _ b e. cc;
+  only = λ r e. inr (let f : NoNode ≡ r = cc in sym f);
   syntax = λ e. absurd (cc);
 }
 
@@ -122,6 +143,7 @@ explained text past s t v parsed x e (Ok b) is limit spells live found only = re
   limit = (λ h. absurd (cc), λ p. absurd (let h = limit.1 p in cc));
   no_node = λ h. absurd (cc);
   live = λ off c h. absurd (let z = live in cc);
+  only = λ r h. absurd (cc);
   syntax = λ h. absurd (cc);
 }
 explained text past s t v parsed x e (Err error) is limit spells live found only = record {
@@ -129,6 +151,7 @@ explained text past s t v parsed x e (Err error) is limit spells live found only
   limit = (λ h. absurd (let f = only error refl in cc), λ p. absurd (let h = limit.1 p in cc));
   no_node = λ h. absurd (let f = only error refl in cc);
   live = λ off c h. cc;
+  only = λ r h. absurd (let f = only error refl in cc);
   syntax = λ h. absurd (let f = only error refl in cc);
 }
 
@@ -137,15 +160,36 @@ pub check_failed : {X : Type 0} (text : List ℕ) (past : Bool) (s : SessionOf) 
 check_failed text past s v walk parsed text_error.Limit is limit syntax = record {
   checked = tt;
   limit = (λ _. limit.0 is, λ _. refl);
+  only = λ r e. limit_alone r e;
   syntax = λ e. absurd (cc);
 }
 check_failed text past s v walk parsed text_error.Syntax is limit syntax = record {
   checked = tt;
   limit = (λ e. absurd (cc), λ p. absurd (let e = limit.1 p in cc));
+  only = λ r e. absurd (cc);
   syntax = λ e. syntax (subst (λ r. IsErrOf r text_error.Syntax) (sym is) refl);
 }
 check_failed text past s v walk parsed text_error.Memory is limit syntax = record {
   checked = tt;
   limit = (λ e. absurd (cc), λ p. absurd (let e = limit.1 p in cc));
+  only = λ r e. absurd (cc);
   syntax = λ e. absurd (cc);
+}
+
+pub checked : {X : Type 0} (text : List ℕ) (past : Bool) (s : SessionOf) (v : ℕ) (walk : List ℕ) (parsed : Result X ExprError) (x : X) (e : Expr) (b : Bool) → parsed ≡ Ok x → ((parsed ≡ Err text_error.Limit) ↔ IsTrue past)
+    → Spells text e → (IsTrue b ↔ Shows (shape_of (graph_of s)) e v walk) → ChecksText text past s v walk (Ok b)
+checked text past s v walk parsed x e b is limit spells shows = record {
+  checked = (e, spells, shows);
+  limit = (λ h. absurd (cc), λ p. absurd (let h = limit.1 p in cc));
+  only = λ r h. absurd (cc);
+  syntax = λ h. absurd (cc);
+}
+
+pub not_checked : {X : Type 0} (text : List ℕ) (past : Bool) (s : SessionOf) (v : ℕ) (walk : List ℕ) (parsed : Result X ExprError) (x : X) → parsed ≡ Ok x → ((parsed ≡ Err text_error.Limit) ↔ IsTrue past)
+    → ChecksText text past s v walk (Err Memory)
+not_checked text past s v walk parsed x is limit = record {
+  checked = tt;
+  limit = (λ h. absurd (cc), λ p. absurd (let h = limit.1 p in cc));
+  only = λ r h. absurd (cc);
+  syntax = λ h. absurd (cc);
 }

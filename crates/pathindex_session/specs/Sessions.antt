@@ -18,7 +18,7 @@ pub record SessionOf : Type 0 where
   pub nodes : List ℕ
   -- the walk that was found last
   pub walk : List ℕ
-  -- the list of blocks or of sizes that was made last
+  -- the list of blocks or of sizes, or the index file, that was made last
   pub text : List ℕ
 
 abbrev pub session_code : Coded SessionOf

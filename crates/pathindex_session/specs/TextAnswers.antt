@@ -1,5 +1,6 @@
 -- What a session answers to a query that is given as a text.
-use Rattle.std.specs.Prelude.{ℕ, Bool, true, false, List, Result, Ok, Err, IfOk, IsTrue, ◌≡◌, ◌≢◌, ◌↔◌}
+use Rattle.std.specs.Prelude.{ℕ, Bool, true, false, List, Result, Ok, Err, IfOk, IsTrue, ◌≡◌, ◌≢◌, ◌↔◌, ◌⊎◌}
+use Rattle.graph_spec.specs.declared.refusal.Refusal.{Refusal}
 use Rattle.graph_spec.specs.declared.refusal.Refusal.TheVariants.{Limit, NoIndex, NoNode}
 use Rattle.graph_spec.specs.Graphs.{Graph, is_live}
 use Rattle.graph_spec.specs.Shapes.{shape_of}
@@ -45,6 +46,8 @@ pub record AnswersText (spells : Query → Type 0) (is_past : Bool) (s t : Sessi
   pub no_index : result ≡ Err (Refused NoIndex) → NamesMissingIndex (kept_in (engine_in s)) via
   -- nothing is answered then
   pub missing : NamesMissingIndex (kept_in (engine_in s)) via → (how : How) → result ≢ Ok how
+  -- and for no other reason
+  pub only : (r : Refusal) → result ≡ Err (Refused r) → (r ≡ Limit) ⊎ (r ≡ NoIndex)
   -- no text that spells a query is wrong
   pub syntax : result ≡ Err Syntax → (q : Query) → spells q → ⊥
 
@@ -61,10 +64,14 @@ pub record ExplainsText (text : List ℕ) (is_past : Bool) (s t : SessionOf) (v 
   -- else it is refused only where the node isn't live
   pub no_node : result ≡ Err (Refused NoNode) → is_live (graph_of s) v ≡ false
   pub live : is_live (graph_of s) v ≡ false → (b : Bool) → result ≢ Ok b
+  -- and for no other reason
+  pub only : (r : Refusal) → result ≡ Err (Refused r) → (r ≡ Limit) ⊎ (r ≡ NoNode)
   pub syntax : result ≡ Err Syntax → (e : Expr) → Spells text e → ⊥
 
 -- What a session answers to the question whether a list of nodes shows why a node answers the expression that a text spells.
 pub record ChecksText (text : List ℕ) (is_past : Bool) (s : SessionOf) (v : ℕ) (walk : List ℕ) (result : Result Bool QueryError) : Type 0 where
   pub checked : IfOk result (λ b. (e : Expr) × Spells text e × (IsTrue b ↔ Shows (shape_of (graph_of s)) e v walk))
   pub limit : (result ≡ Err (Refused Limit)) ↔ IsTrue is_past
+  -- it is refused for no other reason
+  pub only : (r : Refusal) → result ≡ Err (Refused r) → r ≡ Limit
   pub syntax : result ≡ Err Syntax → (e : Expr) → Spells text e → ⊥

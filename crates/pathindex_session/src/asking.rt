@@ -7,6 +7,8 @@ ghost use Rattle.branch_query.specs.Queries.{query_of};
 ghost use Rattle.index_api.specs.declared.kinds.Via.TheVariants.{Data as TheGraph};
 ghost use Rattle.index_api.specs.IndexKinds.{is_kept};
 ghost use Rattle.any_index.specs.AnyMeanings.{meaning_of};
+ghost use Rattle.index_file.specs.SavedIndexes.{SavesFile};
+ghost use Rattle.index_file.specs.WholeFiles.{HasLabels, IsIndexFile};
 ghost use Rattle.extent_report.specs.PrintedLists.{ListsIndex, ListsSizes};
 ghost use Rattle.pathindex_core.specs.Engines.{by_meaning, graph_in, kept_in};
 ghost use Rattle.pathindex_core.specs.Calls.{KeepsAllButViews};
@@ -17,6 +19,7 @@ ghost use Rattle.pathindex_session.specs.Asked.{IsAsked};
 use any_index::AnyIndex;
 use branch_query::Query;
 use index_api::{How, Via};
+use index_saving::file_text;
 use label_graph::Graph;
 use path_query::PathExpr;
 use pathindex_core::{AskError, Engine};
@@ -91,6 +94,26 @@ pub(crate) fn measure<L: Ledger>(
 {
     let mut steps = Steps::<L>::new(blank);
     engine.sizes(alloc, &mut steps)
+}
+
+/// Makes the index file of the graph and of the indexes that are kept.
+pub(crate) fn save<L: Ledger>(
+    alloc: Global,
+    engine: &mut Engine<AnyIndex>,
+    blank: Blank,
+) -> Result<Text, Memory>
+    requires ready { IsReady engine.old }
+    requires name { blank.name ≡ L.name }
+    requires parts { blank.parts ≡ L.parts }
+    requires some { 0 < blank.parts }
+    ensures ready { IsReady engine.new }
+    ensures keeps { KeepsAllButViews (by_meaning meaning_of engine.old) (by_meaning meaning_of engine.new) }
+    ensures saved { IfOk result (SavesFile (graph_in engine.old.opened) (kept_in (by_meaning meaning_of engine.old))) }
+    ensures whole { IfOk result (λ t. HasLabels (graph_in engine.old.opened)
+        → IsIndexFile (graph_in engine.old.opened) (kept_in (by_meaning meaning_of engine.old)) t) }
+{
+    let mut steps = Steps::<L>::new(blank);
+    file_text(alloc, engine, &mut steps)
 }
 
 /// The least walk that shows why a live node answers, if it does.

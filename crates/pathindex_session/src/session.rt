@@ -9,6 +9,8 @@ ghost use Rattle.branch_query.specs.Queries.{query_of};
 ghost use Rattle.path_query.specs.Parsed.{is_past};
 ghost use Rattle.index_api.specs.IndexKinds.{is_kept, kinds_of, has_kind};
 ghost use Rattle.extent_report.specs.PrintedLists.{ListsIndex, ListsSizes};
+ghost use Rattle.index_file.specs.SavedIndexes.{SavesFile};
+ghost use Rattle.index_file.specs.WholeFiles.{HasLabels, IsIndexFile};
 ghost use Rattle.pathindex_core.specs.Engines.{kept_in};
 ghost use Rattle.pathindex_core.specs.Calls.{IsMade, IsForgotten, KeepsAllButViews};
 ghost use Rattle.pathindex_core.specs.Updates.{outcome_in};
@@ -17,7 +19,7 @@ ghost use Rattle.pathindex_session.specs.Openings.{OpensText, TellsLine};
 ghost use Rattle.pathindex_session.specs.Edits.{IsEdited, names_with};
 ghost use Rattle.pathindex_session.specs.TextAnswers.{IsAskedHow, IsExplained, SpellsPath, SpellsBranch, AnswersText, ExplainsText, ChecksText};
 
-use crate::asking::{ask, explain, list, measure};
+use crate::asking::{ask, explain, list, measure, save};
 use crate::editing::{delete, insert};
 use crate::errors::{OpenError, QueryError, of_ask, of_text};
 use crate::opening::{Indexes, open_text};
@@ -38,8 +40,8 @@ use triples_read::Triple;
 use walk_check::holds;
 use walk_proof::Walk;
 
-/// An engine that is open, the numbers of its terms and triples, and what was last asked: answers, a walk, and a list of blocks
-/// or of sizes. A call that fails leaves the graph, its indexes and what was asked before as they were.
+/// An engine that is open, the numbers of its terms and triples, and what was last asked: answers, a walk, and a text, which is a
+/// list of blocks or of sizes, or an index file. A call that fails leaves the graph, its indexes and what was asked before as they were.
 ///
 /// The nodes that Ana knows:
 ///
@@ -310,6 +312,27 @@ impl Session {
         }
     }
 
+    /// Makes the index file of the graph and of the indexes that are kept, as `file_text` does and at its cost: the text made last
+    /// from then on. If each node's label is one (`HasLabels`), one file alone is spelled so: it holds the graph and these indexes,
+    /// and each of its views fits.
+    pub fn save(&mut self, alloc: Global) -> Result<(), Memory>
+        ensures saved { OnOk result (SavesFile (graph_of self.old) (kept_in (engine_in self.old)) self.new.text) }
+        ensures whole { OnOk result (HasLabels (graph_of self.old) → IsIndexFile (graph_of self.old) (kept_in (engine_in self.old)) self.new.text) }
+        ensures keeps { KeepsAllButViews (engine_in self.old) (engine_in self.new) }
+        ensures names { self.new.names ≡ self.old.names }
+        ensures err { OnErr result (self.new.text ≡ self.old.text) }
+        ensures nodes { self.new.nodes ≡ self.old.nodes }
+        ensures walk { self.new.walk ≡ self.old.walk }
+    {
+        match save::<Brand>(alloc, &mut self.engine, Blank::new(1)) {
+            Ok(text) => {
+                self.text = text;
+                Ok(())
+            }
+            Err(Memory) => Err(Memory),
+        }
+    }
+
     /// Drops the index of a kind, as `Engine::forget` does.
     pub fn forget(&mut self, kind: Kind) -> Result<(), Refusal>
         ensures forgotten { IsForgotten kind (engine_in self.old) (engine_in self.new) }
@@ -335,7 +358,7 @@ impl Session {
         self.walk.nodes()
     }
 
-    /// The list of blocks or of sizes that was made last. O(1), no memory.
+    /// The list of blocks or of sizes, or the index file, that was made last. O(1), no memory.
     pub fn text(&self) -> &[u8]
         ensures { result.now ≡ self.now.text }
     {

@@ -49,7 +49,7 @@ fn refuses(rt: &impl Abort, held: &mut Held) {
     assert!(rt; held.call(11, 3, 0, KNOWN) == 5);
     assert!(rt; held.call(12, 32, 0, b"iri[") == 6);
     assert!(rt; held.call(11, 99, 0, KNOWN) == 8);
-    assert!(rt; held.call(17, 0, 0, b"") == 8);
+    assert!(rt; held.call(18, 0, 0, b"") == 8);
     assert!(rt; held.call(8, 0, 0, b"") == 8);
 }
 
@@ -59,6 +59,7 @@ fn lists(rt: &impl Abort, held: &mut Held) {
     let mut text = [0u8; 8];
     assert!(rt; held.copy_text(0, &mut text) == 8 && text == *b"blocks 2");
     assert!(rt; held.call(15, 0, 0, b"") == 0);
+    assert!(rt; held.call(17, 0, 0, b"") == 0 && held.copy_text(0, &mut text) == 8 && text == *b"pathinde");
     assert!(rt; held.call(16, 33, 0, b"") == 0);
     assert!(rt; held.call(11, 33, 0, KNOWN) == 5);
 }

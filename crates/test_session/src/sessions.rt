@@ -108,6 +108,25 @@ fn answers_are_explained(rt: HostRuntime) -> Result<(), Fail> {
     Ok(())
 }
 
+/// The triples with the groups by label, as an index file.
+const FILE: &[u8] = b"pathindex 1\ngiven 5 k 0\nlive iri\nlive <x:knows>\nlive iri\nlive <x:knows>\nlive iri\n\
+edges 4\n0 1\n1 2\n2 3\n3 4\nviews 1\nview a0\n0\n1\n0\n1\n0\n";
+
+const BY_LABEL: Indexes = Indexes {
+    k: 0,
+    one: false,
+    fb: false,
+    bk: false,
+};
+
+#[test]
+fn the_graph_and_its_indexes_are_saved(rt: HostRuntime) -> Result<(), Fail> {
+    let mut session = Session::open(rt.alloc(), TRIPLES, BY_LABEL).map_err(|_| Memory)?;
+    assert!(rt; session.save(rt.alloc()).is_ok());
+    assert!(rt; session.text() == FILE);
+    Ok(())
+}
+
 /// Why the text isn't opened.
 fn error_of(alloc: Global, text: &[u8]) -> Option<OpenError> {
     Session::open(alloc, text, ALL).err()
