@@ -5,6 +5,7 @@ ghost use Rattle.indexmap.specs.IndexMap.{spare};
 ghost use Rattle.change_spec.specs.Named.{is_named, names};
 ghost use Rattle.graph_steps.specs.StepLists.{step_of, steps_of};
 ghost use Rattle.graph_steps.specs.StepSpans.{IsSpan, AreSpans, span_at, widened, Widens};
+ghost use Rattle.graph_steps.specs.NamedSteps.{IsNextNamed};
 ghost use Rattle.graph_steps.specs.NodePlaces.{place_if, node_places};
 ghost use Rattle.smallvec.specs.SmallVec.{HasRoomFor};
 
@@ -176,6 +177,16 @@ impl Change {
         noted(&self.spans, n)
     }
 
+    /// The place of the first step from a place on that names the node, and the number of steps if none does. Expected O(1)
+    /// if the place is 0 or the step in front of it names the node; else the steps that name it before the place are passed
+    /// over. No memory.
+    pub fn next_naming(&self, from: usize, n: NodeId) -> usize
+        requires { from ≤ length self.now }
+        ensures { IsNextNamed n self.now from result }
+    {
+        next_among(self.steps.as_slice(), from, n)
+    }
+
     /// How many steps add a node. O(1), no memory.
     pub fn added(&self) -> usize
         ensures { result ≡ length (node_places self.now) }
@@ -240,6 +251,19 @@ fn any_names(steps: &[Step], n: NodeId) -> bool
     ensures { result ≡ list_any (λ s. names n (step_of s)) steps.now }
 {
     steps.iter().any(|s| names(s, n))
+}
+
+// The same as `next_naming`, by going through the steps.
+pub(crate) fn next_among(steps: &[Step], from: usize, n: NodeId) -> usize
+    requires { from ≤ length steps.now }
+    ensures { IsNextNamed n (steps_of steps.now) from result }
+{
+    for i in from..steps.len() {
+        if names(&steps[i], n) {
+            return i;
+        }
+    }
+    steps.len()
 }
 
 // The same, said of the steps that they stand for.

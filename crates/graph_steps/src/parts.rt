@@ -3,10 +3,10 @@ ghost use Rattle.std.specs.Prelude.{◌≡◌, ◌<◌, ◌≤◌, ◌+◌, ◌-
 ghost use Rattle.change_spec.specs.Named.{is_dropped};
 ghost use Rattle.graph_steps.specs.StepLists.{step_of, steps_of};
 ghost use Rattle.graph_steps.specs.StepSpans.{IsSpan};
-ghost use Rattle.graph_steps.specs.NamedSteps.{AreNaming};
+ghost use Rattle.graph_steps.specs.NamedSteps.{AreNaming, IsNextNamed};
 ghost use Rattle.graph_steps.specs.NodePlaces.{node_places};
 
-use crate::changes::{Change, Span, Step};
+use crate::changes::{Change, Span, Step, next_among};
 use crate::degrees::is_dropped;
 use px_base::NodeId;
 use std::marker::Model;
@@ -86,6 +86,16 @@ impl<'a> Front<'a> {
         let span = self.span(n);
         let first = span.first.max(from);
         between(self.steps(), first, span.past.max(first))
+    }
+
+    /// The place of the first step from a place on that names the node, and the number of steps if none does. Expected O(1)
+    /// if the place is 0 or the step in front of it names the node; else the steps that name it before the place are passed
+    /// over. No memory.
+    pub fn next_naming(&self, from: usize, n: NodeId) -> usize
+        requires { from ≤ length self.now }
+        ensures { IsNextNamed n self.now from result }
+    {
+        next_among(self.steps(), from, n)
     }
 
     /// Whether one of them takes the node away. Expected O(1), and those from the first to the last that names it are gone
