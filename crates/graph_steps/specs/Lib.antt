@@ -1,5 +1,6 @@
 pub mod StepLists
 pub mod StepSpans
+pub mod StepLinks
 pub mod NamedSteps
 pub mod NodePlaces
 pub mod GivenLabels

@@ -234,7 +234,7 @@ fn is_either(n: NodeId, u: NodeId, v: NodeId) -> bool
 }
 
 // Whether the step names the node.
-fn names(step: &Step, n: NodeId) -> bool
+pub(crate) fn names(step: &Step, n: NodeId) -> bool
     ensures { result ≡ names n (step_of step.now) }
 {
     match step {

@@ -1,6 +1,7 @@
 //! Changes of a graph as lists of steps, whether one is accepted, and how the graph is read as the first steps leave it.
 #![tactic(auto)]
 
+mod chains;
 mod changes;
 mod counting;
 mod degrees;
