@@ -99,7 +99,8 @@ fn link_at(steps: &[Step], links: &[Links], i: usize, n: NodeId) -> usize
     requires links { i < length links.now }
     ensures { result ≡ link_at (steps_of steps.now) links.now i n }
 {
-    next_of(&steps[i], links[i], n)
+    let there = links[i];
+    next_of(&steps[i], there, n)
 }
 
 // Lets the link of the step at a place lead to another one.
@@ -177,6 +178,7 @@ fn note_ends(ends: &mut NodeEnds, step: &Step, place: usize)
 // Links the last one of the steps that names the node to the step that comes.
 fn lead_node(links: &mut StepLinks, ends: &NodeEnds, steps: &[Step], n: NodeId)
     requires count { length links.old.items ≡ length steps.now }
+    requires few { length steps.now < nowhere }
     requires noted { AreNoted (steps_of steps.now) ends.now.entries }
     ensures leads { LeadsTo (λ m. nat_eq m n) (length steps.now) (steps_of steps.now) ends.now.entries links.old.items links.new.items }
     ensures count { length links.new.items ≡ length links.old.items }
@@ -190,6 +192,7 @@ fn lead_node(links: &mut StepLinks, ends: &NodeEnds, steps: &[Step], n: NodeId)
 
 fn lead_both(links: &mut StepLinks, ends: &NodeEnds, steps: &[Step], u: NodeId, v: NodeId)
     requires count { length links.old.items ≡ length steps.now }
+    requires few { length steps.now < nowhere }
     requires noted { AreNoted (steps_of steps.now) ends.now.entries }
     ensures leads { LeadsTo (λ m. nat_eq m u || nat_eq m v) (length steps.now) (steps_of steps.now) ends.now.entries links.old.items links.new.items }
     ensures count { length links.new.items ≡ length links.old.items }
@@ -202,6 +205,7 @@ fn lead_both(links: &mut StepLinks, ends: &NodeEnds, steps: &[Step], u: NodeId, 
 // The same for the nodes that the step names.
 fn lead_ends(links: &mut StepLinks, ends: &NodeEnds, steps: &[Step], step: &Step)
     requires count { length links.old.items ≡ length steps.now }
+    requires few { length steps.now < nowhere }
     requires noted { AreNoted (steps_of steps.now) ends.now.entries }
     ensures leads { LeadsTo (λ m. names m (step_of step.now)) (length steps.now) (steps_of steps.now) ends.now.entries links.old.items links.new.items }
     ensures count { length links.new.items ≡ length links.old.items }
