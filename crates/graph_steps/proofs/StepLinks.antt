@@ -69,12 +69,12 @@ name_there [] i n s h e = absurd (omega (arith, h))
 name_there (x ∷ xs) zero n s h e = ap (λ (y : Asked). names n (step_of y)) e
 name_there (x ∷ xs) (suc i) n s h e = name_there xs i n s (omega (arith, h)) e
 
-pub link_there : (ss : List Asked) (ls : List Links) (i n : ℕ) (s : Asked) (l : Links) → i < length ss → i < length ls → s ≡ get_or ss i s → l ≡ get_or ls i l
-    → next_of (step_of s) l n ≡ link_at (steps_of ss) ls i n
-link_there [] ls i n s l h k e f = absurd (omega (arith, h))
-link_there (x ∷ xs) [] i n s l h k e f = absurd (omega (arith, k))
-link_there (x ∷ xs) (y ∷ ys) zero n s l h k e f = ap (λ (z : Asked). next_of (step_of z) l n) e ∙ ap (λ (m : Links). next_of (step_of x) m n) f
-link_there (x ∷ xs) (y ∷ ys) (suc i) n s l h k e f = link_there xs ys i n s l (omega (arith, h)) (omega (arith, k)) e f
+pub link_there : (ss : List Asked) (ls : List Links) (i n : ℕ) (s : Asked) (d : Links) → i < length ss → i < length ls → s ≡ get_or ss i s
+    → next_of (step_of s) (get_or ls i d) n ≡ link_at (steps_of ss) ls i n
+link_there [] ls i n s d h k e = absurd (omega (arith, h))
+link_there (x ∷ xs) [] i n s d h k e = absurd (omega (arith, k))
+link_there (x ∷ xs) (l ∷ ls) zero n s d h k e = ap (λ (z : Asked). next_of (step_of z) l n) e
+link_there (x ∷ xs) (l ∷ ls) (suc i) n s d h k e = link_there xs ls i n s d (omega (arith, h)) (omega (arith, k)) e
 
 pub set_there : (ss : List Asked) (ls : List Links) (i n next : ℕ) (s : Asked) (l : Links) → i < length ss → i < length ls → s ≡ get_or ss i s → l ≡ get_or ls i l
     → set ls i (with_next (step_of s) l n next) ≡ with_link (steps_of ss) ls i n next

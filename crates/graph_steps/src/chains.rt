@@ -67,8 +67,8 @@ fn is_first(step: &Step, n: NodeId) -> bool
     }
 }
 
-fn next_of(step: &Step, links: Links, n: NodeId) -> usize
-    ensures { result ≡ next_of (step_of step.now) links n }
+fn next_of(step: &Step, links: &Links, n: NodeId) -> usize
+    ensures { result ≡ next_of (step_of step.now) links.now n }
 {
     if is_first(step, n) {
         links.first
@@ -99,8 +99,7 @@ fn link_at(steps: &[Step], links: &[Links], i: usize, n: NodeId) -> usize
     requires links { i < length links.now }
     ensures { result ≡ link_at (steps_of steps.now) links.now i n }
 {
-    let there = links[i];
-    next_of(&steps[i], there, n)
+    next_of(&steps[i], &links[i], n)
 }
 
 // Lets the link of the step at a place lead to another one.
