@@ -1,5 +1,4 @@
 pub mod FrontSteps
-pub mod StepSpans
 pub mod StepLinks
 pub mod NamedParts
 pub mod NodePlaces

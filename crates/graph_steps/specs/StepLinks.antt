@@ -3,6 +3,7 @@ use Rattle.std.specs.Prelude.{◌≡◌, ◌<◌, ◌≤◌, ℕ, zero, suc, ◌
 use Rattle.std.specs.Map.{lookup}
 use Rattle.change_spec.specs.Steps.{Step, node, link, unlink, drop, relabel}
 use Rattle.change_spec.specs.Named.{names}
+use Rattle.graph_steps.specs.NodePlaces.{node_places}
 use Rattle.graph_steps.specs.declared.chains.Links.{Links}
 use Rattle.graph_steps.specs.declared.chains.Ends.{Ends}
 
@@ -88,6 +89,12 @@ pub record AreNoted (c : List Step) (ends : List (ℕ × Ends)) : Type 0 where
 pub record AreEnds (c : List Step) (ends : List (ℕ × Ends)) : Type 0 where
   pub each : 1 < length c → AreNoted c ends
   pub none : length c ≤ 1 → ends ≡ []
+
+-- what a change keeps beside its steps
+pub record AreKept (c : List Step) (links : List Links) (ends : List (ℕ × Ends)) (places : List ℕ) : Type 0 where
+  pub linked : AreLinks c links
+  pub noted : AreEnds c ends
+  pub placed : places ≡ node_places c
 
 -- ---- one step more
 

@@ -12,7 +12,7 @@ mod parts;
 #[cfg(test)]
 mod tests;
 
-pub use changes::{Change, Span, Step, Verdict};
+pub use changes::{Change, Step, Verdict};
 pub use degrees::{edges_at, is_dropped};
 pub use fronts::{edge_after, edge_before, has_edge, is_seen};
 pub use given::{given_label, has_label};
