@@ -81,7 +81,7 @@ fresh_few p (Some m) = (let few = one_most (p m) in omega (arith, few))
 
 -- ---- a node that no step names, where none is dropped
 
-unnamed_far : (side : Side) (c : List Step) (n m : ℕ) → is_named c n ≡ false → is_dropped c m ≡ false → concerned_at side c n m ≡ false
+pub unnamed_far : (side : Side) (c : List Step) (n m : ℕ) → is_named c n ≡ false → is_dropped c m ≡ false → concerned_at side c n m ≡ false
 unnamed_far Parents c n m h k = unnamed_child c m n h k
 unnamed_far Children c n m h k = unnamed_parent c n m h k
 
