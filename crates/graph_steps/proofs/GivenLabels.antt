@@ -1,5 +1,5 @@
 -- The label that steps give a node.
-use Rattle.std.proofs.Common.{◌≡◌, ℕ, suc, ◌+◌, ◌<◌, true, false, List, [], ◌∷◌, ◌++◌, length, length-append, take, drop, refl, sym, ap, ◌∙◌, subst, arith, inl, inr, true≢false}
+use Rattle.std.proofs.Common.{◌≡◌, ℕ, suc, ◌+◌, ◌<◌, ◌≤◌, true, false, List, [], ◌∷◌, ◌++◌, length, length-append, take, drop, refl, sym, ap, ◌∙◌, subst, arith, inl, inr, true≢false}
 use Rattle.std.specs.Prelude.{Option, Some, None, is_some, option_map, slice_get, IsTrue, nat_lt, not, ◌||◌, ◌&&◌, if◌then◌else◌}
 use Rattle.std.specs.Option.{option_or}
 use Rattle.std.proofs.Math.Bool.{or-false}
@@ -14,9 +14,10 @@ use Rattle.change_spec.proofs.Fronts.{after_joined}
 use Rattle.change_spec.proofs.NamedNodes.{is_added, live_after}
 use Rattle.change_spec.proofs.StepGraphs.{label_other, label_gone, label_given}
 use Rattle.change_spec.proofs.StepPlaces.{given_made, label_added as label_before, label_last, label_none, live_given, can_joined}
-use Rattle.graph_steps.specs.NamedSteps.{AreNaming}
+use Rattle.graph_steps.specs.NamedSteps.{IsNextNamed}
 use Rattle.graph_steps.specs.NodePlaces.{node_places}
 use Rattle.graph_steps.specs.GivenLabels.{label_added, relabel_by, relabelled}
+use Rattle.graph_steps.proofs.NamedParts.{stretch, stretch_more}
 use Rattle.graph_steps.proofs.NodePlaces.{AddsNode, place_adds, places_count}
 
 pub or_none : (o : Option (List ℕ)) → option_or o None ≡ o
@@ -51,11 +52,16 @@ unnamed_kept (s ∷ ss) n h =
     let both = or_parts (names n s) (is_named ss n) h in
     ap (λ o. option_or o (relabel_by s n)) (unnamed_kept ss n both.1) ∙ unnamed_step s n both.0
 
-pub part_relabelled : (c part : List Step) (n : ℕ) → AreNaming n c part → relabelled part n ≡ relabelled c n
-part_relabelled c part n p = sym (
-    ap (λ k. relabelled k n) p.whole ∙ relabelled_joined p.before (part ++ p.behind) n
-    ∙ ap (option_or (relabelled (part ++ p.behind) n)) (unnamed_kept p.before n p.unnamed) ∙ or_none (relabelled (part ++ p.behind) n)
-    ∙ relabelled_joined part p.behind n ∙ ap (λ o. option_or o (relabelled part n)) (unnamed_kept p.behind n p.over))
+-- nor by steps up to the next one that does
+pub relabelled_begun : (c : List Step) (n from i : ℕ) → IsNextNamed n c from i → relabelled (stretch c from i) n ≡ None
+relabelled_begun c n from i next = unnamed_kept (stretch c from i) n next.between
+
+pub relabelled_more : (c : List Step) (s : Step) (n from i j : ℕ) → from ≤ i → drop i c ≡ s ∷ drop (i + 1) c → IsNextNamed n c (i + 1) j
+    → option_or (relabel_by s n) (relabelled (stretch c from i) n) ≡ relabelled (stretch c from j) n
+relabelled_more c s n from i j low there next = sym (
+    ap (λ k. relabelled k n) (stretch_more c s from i j low next.ordered there)
+    ∙ relabelled_joined (stretch c from i) (s ∷ stretch c (i + 1) j) n
+    ∙ ap (λ o. option_or (option_or o (relabel_by s n)) (relabelled (stretch c from i) n)) (unnamed_kept (stretch c (i + 1) j) n next.between))
 
 -- ---- the label of a node that was there
 

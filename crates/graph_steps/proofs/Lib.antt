@@ -1,5 +1,5 @@
 pub mod FrontSteps
-pub mod StepSpans
+pub mod StepLinks
 pub mod NamedParts
 pub mod NodePlaces
 pub mod GivenLabels

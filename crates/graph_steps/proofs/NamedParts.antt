@@ -1,11 +1,11 @@
 -- The steps that name a node, and the first of them, instead of all.
 use Rattle.std.proofs.Common.{◌≡◌, ℕ, zero, suc, ◌+◌, ◌-◌, ◌<◌, ◌≤◌, Bool, true, false, List, [], ◌∷◌, ◌++◌, length, take, drop, get_or, refl, sym, ap, ◌∙◌, arith, inl, inr, true≢false}
-use Rattle.std.specs.Prelude.{◌||◌, not, IsTrue}
+use Rattle.std.specs.Prelude.{◌||◌, not, IsTrue, Some, min, slice_get}
 use Rattle.std.specs.List.{list_any}
-use Rattle.std.proofs.Math.Bool.{or-false}
+use Rattle.std.proofs.Math.Bool.{or-true}
 use mathlib.Core.Bool.{beq}
 use Rattle.std.proofs.Math.Seq.{drop-drop, drop-cons}
-use Rattle.std.proofs.lemmas.List.{take-append-drop, drop-take, length-take-le, drop_all, length-map}
+use Rattle.std.proofs.lemmas.List.{take-append-drop, take_all, drop-take, length-take-le, length-map}
 use Rattle.std.proofs.lemmas.List.Folds.{list_any-append}
 use Rattle.std.proofs.lemmas.Bool.{cases_Bool, cases_lt, or_parts, and_parts, not-true}
 use Rattle.graph_spec.specs.Graphs.{Graph, is_live}
@@ -16,10 +16,8 @@ use Rattle.change_spec.specs.Shown.{concerned, edge_after, edge_by}
 use Rattle.change_spec.proofs.NamedNodes.{is_added, live_after, unnamed_stays, unnamed_parent, unnamed_child}
 use Rattle.change_spec.proofs.ShownNeighbours.{unconcerned, settled}
 use Rattle.graph_steps.specs.declared.changes.Step.{Step as Asked}
-use Rattle.graph_steps.specs.declared.changes.Span.{Span}
 use Rattle.graph_steps.specs.StepLists.{step_of, steps_of}
-use Rattle.graph_steps.specs.StepSpans.{IsSpan}
-use Rattle.graph_steps.specs.NamedSteps.{AreNaming}
+use Rattle.graph_steps.specs.NamedSteps.{IsNextNamed}
 
 -- ---- parts of the code's steps
 
@@ -75,58 +73,90 @@ unnamed_further c n past i h over =
     let sum : past + (i - past) ≡ i = omega (arith, h) in
     ap (λ k. is_named (drop k c) n) (sym sum) ∙ ap (λ k. is_named k n) (sym (drop-drop (i - past) past c)) ∙ none_further (names n) (i - past) (drop past c) over
 
--- ---- the span of the first steps
+-- ---- the next step that names a node, in front of a place
 
-pub span_front : (c : List Step) (n k : ℕ) (whole part : Span) → k ≤ length c → IsSpan c n whole
-    → part.first ≤ part.past → part.past ≤ k → part.first ≤ whole.first → (part.past < k → part.past ≡ whole.past) → IsSpan (take k c) n part
-span_front c n k whole part within is order short begins ends = record {
-  ordered = order;
-  within = (let len = length-take-le k c within in omega (arith, len, short));
-  before =
-      ap (λ xs. is_named xs n) (take_twice part.first k c (omega (arith, order, short)) ∙ sym (take_twice part.first whole.first c begins))
-      ∙ none_before (names n) part.first (take whole.first c) is.before;
-  behind = elim (cases_lt part.past k) [
-    | inl below ↦ (
-        let sum : part.past + (k - part.past) ≡ k = omega (arith, below) in
-        ap (λ j. is_named (drop part.past (take j c)) n) (sym sum) ∙ ap (λ xs. is_named xs n) (drop-take part.past (k - part.past) c)
-        ∙ none_before (names n) (k - part.past) (drop part.past c) (ap (λ j. is_named (drop j c) n) (ends below) ∙ is.behind))
-    | inr above ↦ (
-        let len = length-take-le k c within in
-        ap (λ xs. is_named xs n) (drop_all part.past (take k c) (omega (arith, len, above))))
-  ];
-}
+got_taken : (c : List Step) (k i : ℕ) (s : Step) → slice_get (take k c) i ≡ Some s → slice_get c i ≡ Some s
+got_taken c zero zero s e = cc
+got_taken c zero (suc i) s e = cc
+got_taken [] (suc k) i s e = e
+got_taken (x ∷ xs) (suc k) zero s e = e
+got_taken (x ∷ xs) (suc k) (suc i) s e = got_taken xs k i s e
 
--- ---- the part within a span
+got_within : (c : List Step) (i : ℕ) (s : Step) → slice_get c i ≡ Some s → i < length c
+got_within [] zero s e = cc
+got_within [] (suc i) s e = cc
+got_within (x ∷ xs) zero s e = omega arith
+got_within (x ∷ xs) (suc i) s e = (let r = got_within xs i s e in omega (arith, r))
 
--- from the later one of two places to one that neither the span nor that exceeds
-pub part_within : (c : List Step) (n from first past : ℕ) (span : Span) → IsSpan c n span → from ≤ first → (from < first → first ≡ span.first) → first ≤ past → span.past ≤ past
-    → AreNaming n (drop from c) (take (past - first) (drop first c))
-part_within c n from first past span is low begins order covers = record {
-  before = take (first - from) (drop from c);
-  behind = drop past c;
-  whole =
-      let to_first : from + (first - from) ≡ first = omega (arith, low) in
-      let to_past : first + (past - first) ≡ past = omega (arith, order) in
-      sym (take-append-drop (first - from) (drop from c))
-      ∙ ap (λ r. take (first - from) (drop from c) ++ r) (drop-drop (first - from) from c ∙ ap (λ k. drop k c) to_first ∙ sym (take-append-drop (past - first) (drop first c))
-      ∙ ap (λ r. take (past - first) (drop first c) ++ r) (drop-drop (past - first) first c ∙ ap (λ k. drop k c) to_past));
-  unnamed = elim (cases_lt from first) [
-    | inl below ↦ (
-        let sum : from + (first - from) ≡ first = omega (arith, low) in
-        ap (λ k. is_named k n) (sym (drop-take from (first - from) c)) ∙ ap (λ k. is_named (drop from (take k c)) n) sum
-        ∙ none_further (names n) from (take first c) (ap (λ k. is_named (take k c) n) (begins below) ∙ is.before))
-    | inr at_from ↦ (let none : first - from ≡ 0 = omega (arith, at_from) in ap (λ k. is_named (take k (drop from c)) n) none)
-  ];
-  over = unnamed_further c n span.past past covers is.behind;
-}
+pub next_front : (c : List Step) (n k from p place : ℕ) → k ≤ length c → from ≤ k → place ≡ min p k → IsNextNamed n c from p → IsNextNamed n (take k c) from place
+next_front c n k from p place within below is next =
+    let len = length-take-le k c within in
+    let low = next.ordered in
+    record {
+      ordered = omega (arith, is, low, below);
+      within = omega (arith, is, len);
+      between =
+          let sum : from + (k - from) ≡ k = omega (arith, below) in
+          ap (λ j. is_named (take (place - from) (drop from (take j c))) n) (sym sum)
+          ∙ ap (λ xs. is_named (take (place - from) xs) n) (drop-take from (k - from) c)
+          ∙ ap (λ xs. is_named xs n) (take_twice (place - from) (k - from) (drop from c) (omega (arith, is)) ∙ sym (take_twice (place - from) (p - from) (drop from c) (omega (arith, is))))
+          ∙ none_before (names n) (place - from) (take (p - from) (drop from c)) next.between;
+      named = λ s e. (
+          let inside = got_within (take k c) place s e in
+          let same : place ≡ p = omega (arith, is, inside, len) in
+          next.named s (ap (λ i. slice_get c i) (sym same) ∙ got_taken c k place s e));
+    }
 
--- ---- what such a part decides
+-- ---- the steps from one place on and before another, as one more that names the node is gone through
 
-pub part_dropped : (c part : List Step) (n : ℕ) → AreNaming n c part → is_dropped part n ≡ is_dropped c n
-part_dropped c part n p = sym (
-    ap (λ k. is_dropped k n) p.whole ∙ list_any-append (λ s. takes_away s n) p.before (part ++ p.behind)
-    ∙ ap (λ b. b || is_dropped (part ++ p.behind) n) (unnamed_stays p.before n p.unnamed)
-    ∙ list_any-append (λ s. takes_away s n) part p.behind ∙ ap (λ b. is_dropped part n || b) (unnamed_stays p.behind n p.over) ∙ or-false (is_dropped part n))
+abbrev pub stretch : List Step → ℕ → ℕ → List Step
+stretch c from past = take (past - from) (drop from c)
+
+pub stretch_all : (c : List Step) (from past : ℕ) → from ≤ length c → length c ≤ past → stretch c from past ≡ drop from c
+stretch_all c from past low high = (let len = dropped_len from c low in take_all (past - from) (drop from c) (omega (arith, len, high)))
+  where
+    dropped_len : (k : ℕ) (xs : List Step) → k ≤ length xs → length (drop k xs) + k ≡ length xs
+    dropped_len zero xs h = omega arith
+    dropped_len (suc k) [] h = absurd (omega (arith, h))
+    dropped_len (suc k) (x ∷ xs) h = (let r = dropped_len k xs (omega (arith, h)) in omega (arith, r))
+
+taken_on : (a b : ℕ) (xs : List Step) → take (a + b) xs ≡ take a xs ++ take b (drop a xs)
+taken_on zero b xs = (let same : 0 + b ≡ b = omega arith in ap (λ k. take k xs) same)
+taken_on (suc a) zero [] = refl
+taken_on (suc a) (suc b) [] = refl
+taken_on (suc a) b (x ∷ xs) = (let same : suc a + b ≡ suc (a + b) = omega arith in ap (λ k. take k (x ∷ xs)) same ∙ ap (λ ys. x ∷ ys) (taken_on a b xs))
+
+pub stretch_more : (c : List Step) (s : Step) (from i j : ℕ) → from ≤ i → i + 1 ≤ j → drop i c ≡ s ∷ drop (i + 1) c → stretch c from j ≡ stretch c from i ++ (s ∷ stretch c (i + 1) j)
+stretch_more c s from i j low high there =
+    let sum : j - from ≡ (i - from) + suc (j - (i + 1)) = omega (arith, low, high) in
+    let to_place : from + (i - from) ≡ i = omega (arith, low) in
+    ap (λ k. take k (drop from c)) sum ∙ taken_on (i - from) (suc (j - (i + 1))) (drop from c)
+    ∙ ap (λ xs. stretch c from i ++ take (suc (j - (i + 1))) xs) (drop-drop (i - from) from c ∙ ap (λ k. drop k c) to_place ∙ there)
+
+pub some_step : (c : List Step) (i : ℕ) → i < length c → (s : Step) × (drop i c ≡ s ∷ drop (i + 1) c)
+some_step [] i h = absurd (omega (arith, h))
+some_step (x ∷ xs) zero h = (x, refl)
+some_step (x ∷ xs) (suc i) h = (
+    let r = some_step xs i (omega (arith, h)) in
+    let same : suc (i + 1) ≡ suc i + 1 = omega arith in
+    (r.0, r.1 ∙ ap (λ k. r.0 ∷ drop k (x ∷ xs)) same))
+
+-- ---- what the steps that name a node decide
+
+-- whether one takes the node away
+pub dropped_more : (c : List Step) (s : Step) (n from i j : ℕ) → from ≤ i → drop i c ≡ s ∷ drop (i + 1) c → IsNextNamed n c (i + 1) j → is_dropped (stretch c from i) n ≡ false
+    → takes_away s n ≡ false → is_dropped (stretch c from j) n ≡ false
+dropped_more c s n from i j low there next before stays =
+    ap (λ k. is_dropped k n) (stretch_more c s from i j low next.ordered there)
+    ∙ list_any-append (λ t. takes_away t n) (stretch c from i) (s ∷ stretch c (i + 1) j)
+    ∙ ap (λ b. b || (takes_away s n || is_dropped (stretch c (i + 1) j) n)) before
+    ∙ ap (λ b. b || is_dropped (stretch c (i + 1) j) n) stays ∙ unnamed_stays (stretch c (i + 1) j) n next.between
+
+pub dropped_here : (c : List Step) (s : Step) (n i : ℕ) → drop i c ≡ s ∷ drop (i + 1) c → takes_away s n ≡ true → is_dropped c n ≡ true
+dropped_here c s n i there goes =
+    ap (λ k. is_dropped k n) (sym (take-append-drop i c) ∙ ap (λ k. take i c ++ k) there)
+    ∙ list_any-append (λ t. takes_away t n) (take i c) (s ∷ drop (i + 1) c)
+    ∙ ap (λ b. is_dropped (take i c) n || (b || is_dropped (drop (i + 1) c) n)) goes ∙ or-true (is_dropped (take i c) n)
 
 -- what is live behind the steps, none of them takes away
 pub live_stays : (c : List Step) (g : Graph) (n : ℕ) → CanMakeAll c g → IsTrue (is_live (after c g) n) → is_dropped c n ≡ false
@@ -140,27 +170,34 @@ pub edge_joined : (xs ys : List Step) (p n : ℕ) (b : Bool) → edge_after (xs 
 edge_joined [] ys p n b = refl
 edge_joined (x ∷ xs) ys p n b = edge_joined xs ys p n (edge_by x p n b)
 
--- steps in front and behind that don't concern the edge
-pub edge_within : (before part behind : List Step) (p n : ℕ) (b : Bool) → concerned before p n ≡ false → concerned behind p n ≡ false
-    → edge_after part p n b ≡ edge_after (before ++ (part ++ behind)) p n b
-edge_within before part behind p n b h k = sym (
-    edge_joined before (part ++ behind) p n b ∙ ap (edge_after (part ++ behind) p n) (unconcerned before p n b h)
-    ∙ edge_joined part behind p n b ∙ unconcerned behind p n (edge_after part p n b) k)
+-- steps that don't name the node leave the edge as it was
+abbrev pub Skips : ℕ → ℕ → ℕ → List Step → Type 0
+Skips n u v c = (from past : ℕ) → is_named (stretch c from past) n ≡ false → concerned (stretch c from past) u v ≡ false
 
--- an edge between nodes that stay, by the steps that name the node where it begins, or the one where it ends
-pub edge_of_from : (c part : List Step) (u v : ℕ) (b : Bool) → AreNaming u c part → is_dropped c v ≡ false → edge_after part u v b ≡ edge_after c u v b
-edge_of_from c part u v b p stays =
-    let front = stays_parts p.before (part ++ p.behind) v (ap (λ k. is_dropped k v) (sym p.whole) ∙ stays) in
-    let back = stays_parts part p.behind v front.1 in
-    edge_within p.before part p.behind u v b (unnamed_parent p.before u v p.unnamed front.0) (unnamed_parent p.behind u v p.over back.1)
-    ∙ ap (λ k. edge_after k u v b) (sym p.whole)
+-- so do those that don't name the one end of an edge, where no step takes the other end away
+stays_within : (c : List Step) (n from past : ℕ) → is_dropped c n ≡ false → is_dropped (stretch c from past) n ≡ false
+stays_within c n from past h = none_before (λ s. takes_away s n) (past - from) (drop from c) (none_further (λ s. takes_away s n) from c h)
 
-pub edge_of_onto : (c part : List Step) (u v : ℕ) (b : Bool) → AreNaming v c part → is_dropped c u ≡ false → edge_after part u v b ≡ edge_after c u v b
-edge_of_onto c part u v b p stays =
-    let front = stays_parts p.before (part ++ p.behind) u (ap (λ k. is_dropped k u) (sym p.whole) ∙ stays) in
-    let back = stays_parts part p.behind u front.1 in
-    edge_within p.before part p.behind u v b (unnamed_child p.before u v p.unnamed front.0) (unnamed_child p.behind u v p.over back.1)
-    ∙ ap (λ k. edge_after k u v b) (sym p.whole)
+pub skips_from : (c : List Step) (u v : ℕ) → is_dropped c v ≡ false → Skips u u v c
+skips_from c u v h from past none = unnamed_parent (stretch c from past) u v none (stays_within c v from past h)
+
+pub skips_onto : (c : List Step) (u v : ℕ) → is_dropped c u ≡ false → Skips v u v c
+skips_onto c u v h from past none = unnamed_child (stretch c from past) u v none (stays_within c u from past h)
+
+-- so what an edge becomes is known by the steps that name the node
+pub edge_begun : (c : List Step) (n u v i : ℕ) (b : Bool) → Skips n u v c → IsNextNamed n c 0 i → b ≡ edge_after (stretch c 0 i) u v b
+edge_begun c n u v i b skips next = sym (unconcerned (stretch c 0 i) u v b (skips 0 i next.between))
+
+pub edge_more : (c : List Step) (s : Step) (n u v i j : ℕ) (b before : Bool) → Skips n u v c → drop i c ≡ s ∷ drop (i + 1) c → IsNextNamed n c (i + 1) j
+    → before ≡ edge_after (stretch c 0 i) u v b → edge_by s u v before ≡ edge_after (stretch c 0 j) u v b
+edge_more c s n u v i j b before skips there next is = sym (
+    ap (λ k. edge_after k u v b) (stretch_more c s 0 i j (omega arith) next.ordered there)
+    ∙ edge_joined (stretch c 0 i) (s ∷ stretch c (i + 1) j) u v b
+    ∙ unconcerned (stretch c (i + 1) j) u v (edge_by s u v (edge_after (stretch c 0 i) u v b)) (skips (i + 1) j next.between)
+    ∙ ap (edge_by s u v) (sym is))
+
+pub edge_done : (c : List Step) (u v i : ℕ) (b before : Bool) → length c ≤ i → before ≡ edge_after (stretch c 0 i) u v b → before ≡ edge_after c u v b
+edge_done c u v i b before past is = is ∙ ap (λ k. edge_after k u v b) (stretch_all c 0 i (omega arith) past)
 
 -- where the steps leave an edge that wasn't there as one that was, they leave each edge so
 pub edge_settled : (c : List Step) (u v : ℕ) (x y b : Bool) → x ≡ edge_after c u v false → y ≡ edge_after c u v true → beq x y ≡ true → x ≡ edge_after c u v b

@@ -1,7 +1,7 @@
 pub mod StepLists
-pub mod StepSpans
-pub mod NamedSteps
 pub mod NodePlaces
+pub mod StepLinks
+pub mod NamedSteps
 pub mod GivenLabels
 pub mod NewChanges
 pub mod Counted

@@ -1,5 +1,5 @@
 -- The steps that name a node, from one to the next.
-use Rattle.std.specs.Prelude.{◌≡◌, ◌≤◌, ℕ, ◌-◌, true, false, List, ◌++◌, length, take, drop, slice_get, Some}
+use Rattle.std.specs.Prelude.{◌≡◌, ◌≤◌, ℕ, ◌-◌, true, false, List, length, take, drop, slice_get, Some}
 use Rattle.change_spec.specs.Steps.{Step}
 use Rattle.change_spec.specs.Named.{names, is_named}
 
@@ -9,11 +9,3 @@ pub record IsNextNamed (n : ℕ) (c : List Step) (from place : ℕ) : Type 0 whe
   pub within : place ≤ length c
   pub between : is_named (take (place - from) (drop from c)) n ≡ false
   pub named : (s : Step) → slice_get c place ≡ Some s → names n s ≡ true
-
--- the part of the steps in front of which, and behind which, none names the node
-pub record AreNaming (n : ℕ) (c part : List Step) : Type 0 where
-  pub before : List Step
-  pub behind : List Step
-  pub whole : c ≡ before ++ (part ++ behind)
-  pub unnamed : is_named before n ≡ false
-  pub over : is_named behind n ≡ false

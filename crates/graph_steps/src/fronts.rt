@@ -1,11 +1,12 @@
 // A graph as the first steps of a change will leave it.
-ghost use Rattle.std.specs.Prelude.{◌≡◌, ◌<◌, ◌&&◌, ◌||◌, not, false, nat_eq, nat_lt, bytes_eq, length};
+ghost use Rattle.std.specs.Prelude.{◌≡◌, ◌<◌, ◌+◌, ◌&&◌, ◌||◌, ◌∷◌, not, false, nat_eq, nat_lt, bytes_eq, length, drop};
 ghost use Rattle.graph_spec.specs.Graphs.{Graph as Seen, is_live, has_edge, is_seen};
-ghost use Rattle.change_spec.specs.Steps.{made, after};
+ghost use Rattle.change_spec.specs.Steps.{Step as Made, made, after};
 ghost use Rattle.change_spec.specs.Places.{CanMakeAll};
 ghost use Rattle.change_spec.specs.Named.{is_dropped};
 ghost use Rattle.change_spec.specs.Shown.{edge_by, edge_after};
 ghost use Rattle.graph_steps.specs.StepLists.{step_of, steps_of};
+ghost use Rattle.graph_steps.specs.NamedSteps.{IsNextNamed};
 
 use crate::changes::Step;
 use crate::parts::Front;
@@ -22,7 +23,7 @@ fn is_added(graph: &Graph, created: u32, n: NodeId) -> bool
 }
 
 /// Whether the number is that of a live node once the first steps are made, which leave so many numbers allocated. Expected
-/// O(1), and the steps from the first to the last that names the node are gone through; no memory.
+/// O(1), and the steps that name the node are gone through; no memory.
 pub(crate) fn is_live(graph: &Graph, front: &Front<'_>, created: u32, n: NodeId) -> bool
     requires can { CanMakeAll front.now graph.now.graph }
     requires created { created ≡ length (after front.now graph.now.graph).allocated }
@@ -70,30 +71,56 @@ fn edge_by(step: &Step, u: NodeId, v: NodeId, present: bool) -> bool
     }
 }
 
-// Whether an edge is there behind steps, where it was or wasn't in front of them.
-fn edge_behind(steps: &[Step], u: NodeId, v: NodeId, present: bool) -> bool
-    ensures { result ≡ edge_after (steps_of steps.now) u v present }
+// The place of a step that names an end of an edge, and whether the edge is there once those before it are made.
+#[derive(Clone, Copy, Drop)]
+struct EdgeBefore {
+    place: usize,
+    there: bool,
+}
+
+// The first such step.
+fn begun(front: &Front<'_>, n: NodeId, present: bool) -> EdgeBefore
+    ensures place { IsNextNamed n front.now 0 result.place }
+    ensures there { result.there ≡ present }
 {
-    let mut there = present;
-    for i in 0..steps.len() {
-        there = edge_by(&steps[i], u, v, there);
+    EdgeBefore {
+        place: front.next_naming(0, n),
+        there: present,
     }
-    there
+}
+
+// The next one.
+fn moved(front: &Front<'_>, at: EdgeBefore, u: NodeId, v: NodeId, n: NodeId) -> EdgeBefore
+    requires { at.place < length front.now }
+    ensures place { IsNextNamed n front.now (at.place + 1) result.place }
+    ensures there { (s : Made) → drop at.place front.now ≡ s ∷ drop (at.place + 1) front.now → result.there ≡ edge_by s u v at.there }
+{
+    EdgeBefore {
+        place: front.next_naming(at.place + 1, n),
+        there: edge_by(front.step(at.place), u, v, at.there),
+    }
 }
 
 /// Whether an edge is there once the first steps are made, none of which takes an end of it away, where it was or wasn't
-/// before. Expected O(1), and the steps from the first to the last that names an end are gone through, for the end where
-/// these are fewer; no memory.
+/// before. Expected O(1), and the steps that name an end are gone through, for the end that fewer of them name; no memory.
 pub fn edge_after(front: &Front<'_>, u: NodeId, v: NodeId, present: bool) -> bool
     requires from { is_dropped front.now u ≡ false }
     requires onto { is_dropped front.now v ≡ false }
     ensures { result ≡ edge_after front.now u v present }
 {
-    let (from, onto) = (front.naming(0, u), front.naming(0, v));
-    if from.len() <= onto.len() {
-        return edge_behind(from, u, v, present);
+    let len = front.len();
+    let mut from = begun(front, u, present);
+    let mut onto = begun(front, v, present);
+    // Along both at once, until there are no more of one.
+    while from.place < len && onto.place < len {
+        from = moved(front, from, u, v, u);
+        onto = moved(front, onto, u, v, v);
     }
-    edge_behind(onto, u, v, present)
+    if from.place < len {
+        onto.there
+    } else {
+        from.there
+    }
 }
 
 fn counted_edge<L: Ledger>(graph: &Graph, from: NodeId, to: NodeId, blank: Blank) -> bool

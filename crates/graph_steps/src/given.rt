@@ -1,5 +1,5 @@
 // The labels that nodes have once the first steps of a change are made.
-ghost use Rattle.std.specs.Prelude.{◌≡◌, ◌+◌, ◌<◌, IsTrue, Some, None, length, option_map, if◌then◌else◌};
+ghost use Rattle.std.specs.Prelude.{◌≡◌, ◌+◌, ◌<◌, ◌≤◌, IsTrue, Some, None, length, drop, option_map, if◌then◌else◌};
 ghost use Rattle.std.specs.Option.{option_or};
 ghost use Rattle.graph_spec.specs.Graphs.{Graph as Seen, is_live, label_of};
 ghost use Rattle.change_spec.specs.Steps.{after, is_text};
@@ -31,13 +31,17 @@ fn relabel_by(step: &Step, n: NodeId) -> Option<&Text>
     }
 }
 
-// The label that the last of the steps gives a node by its number.
-fn relabelled(steps: &[Step], n: NodeId) -> Option<&Text>
-    ensures { option_map (λ t. t.now) result ≡ relabelled (steps_of steps.now) n }
+// The label that the last of the steps from a place on gives a node by its number.
+fn relabelled<'a>(front: &Front<'a>, from: usize, n: NodeId) -> Option<&'a Text>
+    requires { from ≤ length front.now }
+    ensures { option_map (λ t. t.now) result ≡ relabelled (drop from front.now) n }
 {
+    let len = front.len();
     let mut given = None;
-    for i in 0..steps.len() {
-        given = relabel_by(&steps[i], n).or(given);
+    let mut i = front.next_naming(from, n);
+    while i < len {
+        given = relabel_by(front.step(i), n).or(given);
+        i = front.next_naming(i + 1, n);
     }
     given
 }
@@ -60,11 +64,11 @@ fn added_label<'a>(front: &Front<'a>, earlier: usize, n: NodeId) -> Option<&'a T
 {
     let place = front.node_place(earlier);
     let label = label_added(front.step(place));
-    relabelled(front.naming(place, n), n).or(label)
+    relabelled(front, place, n).or(label)
 }
 
 /// The label that the first steps give a node which is live behind them, the last one where several do. Expected O(1), and
-/// the steps from the first to the last that names the node are gone through; no memory.
+/// the steps that name the node are gone through; no memory.
 pub fn given_label<'a>(graph: &Graph, front: &Front<'a>, n: NodeId) -> Option<&'a Text>
     requires can { CanMakeAll front.now graph.now.graph }
     requires live { IsTrue (is_live (after front.now graph.now.graph) n) }
@@ -72,7 +76,7 @@ pub fn given_label<'a>(graph: &Graph, front: &Front<'a>, n: NodeId) -> Option<&'
 {
     let created = graph.created();
     if n < created {
-        return relabelled(front.naming(0, n), n);
+        return relabelled(front, 0, n);
     }
     added_label(front, (n - created) as usize, n)
 }
@@ -88,7 +92,7 @@ fn label_before(graph: &Graph, u: NodeId, text: &Text) -> bool
 }
 
 /// Whether a node which is live once the first steps are made has that label then. Expected O(b) for a text of b bytes, and
-/// the steps from the first to the last that names the node are gone through; no memory.
+/// the steps that name the node are gone through; no memory.
 pub fn has_label(graph: &Graph, front: &Front<'_>, u: NodeId, text: &Text) -> bool
     requires can { CanMakeAll front.now graph.now.graph }
     requires live { IsTrue (is_live (after front.now graph.now.graph) u) }

@@ -1,13 +1,12 @@
-// Parts of a change: its first steps, and those among which are all that name a node.
-ghost use Rattle.std.specs.Prelude.{◌≡◌, ◌<◌, ◌≤◌, ◌+◌, ◌-◌, ◌∷◌, Some, length, slice_get, take, drop};
+// The first steps of a change.
+ghost use Rattle.std.specs.Prelude.{◌≡◌, ◌<◌, ◌≤◌, ◌+◌, ◌∷◌, Some, length, slice_get, take, drop};
 ghost use Rattle.change_spec.specs.Named.{is_dropped};
 ghost use Rattle.graph_steps.specs.StepLists.{step_of, steps_of};
-ghost use Rattle.graph_steps.specs.StepSpans.{IsSpan};
-ghost use Rattle.graph_steps.specs.NamedSteps.{AreNaming, IsNextNamed};
+ghost use Rattle.graph_steps.specs.NamedSteps.{IsNextNamed};
 ghost use Rattle.graph_steps.specs.NodePlaces.{node_places};
 
-use crate::changes::{Change, Span, Step, next_among};
-use crate::degrees::is_dropped;
+use crate::changes::{Change, Step};
+use crate::degrees::takes_away;
 use px_base::NodeId;
 use std::marker::Model;
 
@@ -60,32 +59,19 @@ impl<'a> Front<'a> {
         first_steps(self.change.steps(), self.past)
     }
 
+    // How many they are.
+    pub(crate) fn len(&self) -> usize
+        ensures { result ≡ length self.now }
+    {
+        self.past
+    }
+
     /// The step at a place. O(1), no memory.
     pub fn step(&self, i: usize) -> &'a Step
         requires { i < length self.now }
         ensures { drop i self.now ≡ step_of result.now ∷ drop (i + 1) self.now }
     {
         step_at(self.steps(), i)
-    }
-
-    /// A span outside which none of them names the node. Expected O(1), no memory.
-    pub fn span(&self, n: NodeId) -> Span
-        ensures { IsSpan self.now n result }
-    {
-        let span = self.change.span(n);
-        let first = span.first.min(self.past);
-        let past = span.past.min(self.past);
-        Span { first, past }
-    }
-
-    /// Of the steps from a place on, those from the first to the last that names the node. Expected O(1), no memory.
-    pub fn naming(&self, from: usize, n: NodeId) -> &'a [Step]
-        requires { from ≤ length self.now }
-        ensures { AreNaming n (drop from self.now) (steps_of result.now) }
-    {
-        let span = self.span(n);
-        let first = span.first.max(from);
-        between(self.steps(), first, span.past.max(first))
     }
 
     /// The place of the first step from a place on that names the node, and the number of steps if none does. Expected O(1)
@@ -95,15 +81,22 @@ impl<'a> Front<'a> {
         requires { from ≤ length self.now }
         ensures { IsNextNamed n self.now from result }
     {
-        next_among(self.steps(), from, n)
+        self.change.next_naming(from, n).min(self.past)
     }
 
-    /// Whether one of them takes the node away. Expected O(1), and those from the first to the last that names it are gone
-    /// through; no memory.
+    /// Whether one of them takes the node away. Expected O(1), and those that name it are gone through; no memory.
     pub fn is_dropped(&self, n: NodeId) -> bool
         ensures { result ≡ is_dropped self.now n }
     {
-        is_dropped(self.naming(0, n), n)
+        let len = self.len();
+        let mut i = self.next_naming(0, n);
+        while i < len {
+            if takes_away(self.step(i), n) {
+                return true;
+            }
+            i = self.next_naming(i + 1, n);
+        }
+        false
     }
 
     /// The place of the step that adds a node once so many others are added. O(1), no memory.
@@ -128,13 +121,4 @@ fn step_at(steps: &[Step], i: usize) -> &Step
     ensures { drop i (steps_of steps.now) ≡ step_of result.now ∷ drop (i + 1) (steps_of steps.now) }
 {
     &steps[i]
-}
-
-// The steps from one place on, and before another.
-fn between(steps: &[Step], first: usize, past: usize) -> &[Step]
-    requires order { first ≤ past }
-    requires within { past ≤ length steps.now }
-    ensures { steps_of result.now ≡ take (past - first) (drop first (steps_of steps.now)) }
-{
-    &steps[first..past]
 }

@@ -1,0 +1,112 @@
+-- The links from each step to the next ones that name its nodes.
+use Rattle.std.specs.Prelude.{◌≡◌, ◌<◌, ◌≤◌, ℕ, zero, suc, ◌+◌, ◌-◌, ◌^◌, ◌⊎◌, ◌&&◌, Bool, true, false, List, [], ◌∷◌, length, min, nat_eq, unwrap_or, if◌then◌else◌}
+use Rattle.std.specs.Map.{lookup}
+use Rattle.change_spec.specs.Steps.{Step, node, link, unlink, drop, relabel}
+use Rattle.change_spec.specs.Named.{names}
+use Rattle.graph_steps.specs.NodePlaces.{node_places}
+use Rattle.graph_steps.specs.declared.chains.Links.{Links}
+use Rattle.graph_steps.specs.declared.chains.Ends.{Ends}
+
+-- the step at the place names the node
+abbrev pub names_at : List Step → ℕ → ℕ → Bool
+names_at [] i n = false
+names_at (s ∷ ss) zero n = names n s
+names_at (s ∷ ss) (suc i) n = names_at ss i n
+
+-- behind every place
+abbrev pub nowhere : ℕ
+nowhere = 2 ^ 64 - 1
+
+-- no step from one place on and before another names the node, and the one there does, if that is a place at all
+pub record IsAhead (n : ℕ) (c : List Step) (from place : ℕ) : Type 0 where
+  pub between : (k : ℕ) → from ≤ k → k < place → names_at c k n ≡ false
+  pub there : (names_at c place n ≡ true) ⊎ (place ≡ nowhere)
+
+-- the place is that of the first step from a place on that names the node, and nowhere if none does
+pub record IsLater (n : ℕ) (c : List Step) (from place : ℕ) : Type 0 where
+  pub ordered : from ≤ place
+  pub ahead : IsAhead n c from place
+
+-- the place is that of the last step that names the node, and nowhere if none does
+pub record IsLast (n : ℕ) (c : List Step) (place : ℕ) : Type 0 where
+  pub last : (k : ℕ) → names_at c k n ≡ true → (k ≤ place) × (names_at c place n ≡ true)
+  pub there : (names_at c place n ≡ true) ⊎ (place ≡ nowhere)
+
+-- ---- the links of steps
+
+-- the node is the first one that the step names
+abbrev pub is_first : ℕ → Step → Bool
+is_first n (node t) = false
+is_first n (link u v) = nat_eq n u
+is_first n (unlink u v) = nat_eq n u
+is_first n (drop u) = nat_eq n u
+is_first n (relabel u t) = nat_eq n u
+
+abbrev pub next_of : Step → Links → ℕ → ℕ
+next_of s l n = if is_first n s then l.first else l.second
+
+abbrev pub with_next : Step → Links → ℕ → ℕ → Links
+with_next s l n next = if is_first n s then record { first = next; second = l.second } else record { first = l.first; second = next }
+
+-- where the link of the step at a place leads that is for a node which the step names
+abbrev pub link_at : List Step → List Links → ℕ → ℕ → ℕ
+link_at [] ls i n = nowhere
+link_at (s ∷ ss) [] i n = nowhere
+link_at (s ∷ ss) (l ∷ ls) zero n = next_of s l n
+link_at (s ∷ ss) (l ∷ ls) (suc i) n = link_at ss ls i n
+
+abbrev pub with_link : List Step → List Links → ℕ → ℕ → ℕ → List Links
+with_link [] ls i n next = ls
+with_link (s ∷ ss) [] i n next = []
+with_link (s ∷ ss) (l ∷ ls) zero n next = with_next s l n next ∷ ls
+with_link (s ∷ ss) (l ∷ ls) (suc i) n next = l ∷ with_link ss ls i n next
+
+-- each link leads to the next step behind its own that names the node
+pub record AreLinks (c : List Step) (links : List Links) : Type 0 where
+  pub count : length links ≡ length c
+  pub next : (i n : ℕ) → names_at c i n ≡ true → IsLater n c (i + 1) (link_at c links i n)
+
+-- ---- the first step that names a node, and the last
+
+abbrev pub no_ends : Ends
+no_ends = record { first = nowhere; last = nowhere }
+
+abbrev pub ends_at : List (ℕ × Ends) → ℕ → Ends
+ends_at ends n = unwrap_or (lookup (nat_eq n) ends) no_ends
+
+abbrev pub first_at : List (ℕ × Ends) → ℕ → ℕ
+first_at ends n = (ends_at ends n).first
+
+abbrev pub last_at : List (ℕ × Ends) → ℕ → ℕ
+last_at ends n = (ends_at ends n).last
+
+-- of each node
+pub record AreNoted (c : List Step) (ends : List (ℕ × Ends)) : Type 0 where
+  pub first : (n : ℕ) → IsLater n c 0 (first_at ends n)
+  pub last : (n : ℕ) → IsLast n c (last_at ends n)
+
+-- of a change of several steps; of one of fewer nothing is noted
+pub record AreEnds (c : List Step) (ends : List (ℕ × Ends)) : Type 0 where
+  pub each : 1 < length c → AreNoted c ends
+  pub none : length c ≤ 1 → ends ≡ []
+
+-- what a change keeps beside its steps
+pub record AreKept (c : List Step) (links : List Links) (ends : List (ℕ × Ends)) (places : List ℕ) : Type 0 where
+  pub linked : AreLinks c links
+  pub noted : AreEnds c ends
+  pub placed : places ≡ node_places c
+
+-- ---- one step more
+
+-- the ends once a step at the place names the node as well
+abbrev pub ends_with : Ends → ℕ → Ends
+ends_with e place = record { first = min e.first place; last = place }
+
+-- a step at the place names these nodes, and no others
+abbrev pub Notes : (ℕ → Bool) → ℕ → List (ℕ × Ends) → List (ℕ × Ends) → Type 0
+Notes named place old new = (m : ℕ) → ends_at new m ≡ (if named m then ends_with (ends_at old m) place else ends_at old m)
+
+-- the last step before the place that names one of these nodes is linked to it
+abbrev pub LeadsTo : (ℕ → Bool) → ℕ → List Step → List (ℕ × Ends) → List Links → List Links → Type 0
+LeadsTo named place c ends old new =
+    (i m : ℕ) → names_at c i m ≡ true → link_at c new i m ≡ (if named m && nat_eq i (last_at ends m) then place else link_at c old i m)
