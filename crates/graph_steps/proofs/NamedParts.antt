@@ -122,8 +122,11 @@ stretch_all c from past low high = (let len = dropped_len from c low in take_all
 
 taken_on : (a b : ℕ) (xs : List Step) → take (a + b) xs ≡ take a xs ++ take b (drop a xs)
 taken_on zero b xs = (let same : 0 + b ≡ b = omega arith in ap (λ k. take k xs) same)
-taken_on (suc a) zero [] = refl
-taken_on (suc a) (suc b) [] = refl
+taken_on (suc a) b [] = nothing (suc a + b) ∙ sym (nothing b)
+  where
+    nothing : (k : ℕ) → take {A = Step} k [] ≡ []
+    nothing zero = refl
+    nothing (suc k) = refl
 taken_on (suc a) b (x ∷ xs) = (let same : suc a + b ≡ suc (a + b) = omega arith in ap (λ k. take k (x ∷ xs)) same ∙ ap (λ ys. x ∷ ys) (taken_on a b xs))
 
 pub stretch_more : (c : List Step) (s : Step) (from i j : ℕ) → from ≤ i → i + 1 ≤ j → drop i c ≡ s ∷ drop (i + 1) c → stretch c from j ≡ stretch c from i ++ (s ∷ stretch c (i + 1) j)

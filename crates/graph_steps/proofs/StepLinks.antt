@@ -1,6 +1,7 @@
 -- Links of steps, as they are read, and as a change gets one step more.
 use Rattle.std.proofs.Common.{◌≡◌, ℕ, zero, suc, ◌+◌, ◌-◌, ◌<◌, ◌≤◌, Bool, true, false, List, [], ◌∷◌, ◌++◌, length, take, drop, get_or, set, refl, sym, ap, ◌∙◌, subst, arith, inl, inr, nat_eq, true≢false}
-use Rattle.std.specs.Prelude.{◌||◌, ◌&&◌, ◌⊎◌, ◌≢◌, ◌^◌, Some, min, slice_get, if◌then◌else◌, not}
+use Rattle.std.specs.Prelude.{◌||◌, ◌&&◌, ◌⊎◌, ◌≢◌, ◌^◌, Option, Some, None, is_some, unwrap_or, min, slice_get, if◌then◌else◌, not}
+use Rattle.std.specs.Map.{lookup}
 use Rattle.std.proofs.lemmas.List.{length-append, length-map}
 use Rattle.std.proofs.lemmas.Bool.{cases_Bool, cases_lt, not-true}
 use Rattle.std.proofs.lemmas.Bool.Decides.{eqb_tells}
@@ -11,7 +12,7 @@ use Rattle.graph_steps.specs.declared.chains.Links.{Links}
 use Rattle.graph_steps.specs.declared.chains.Ends.{Ends}
 use Rattle.graph_steps.specs.StepLists.{step_of, steps_of}
 use Rattle.graph_steps.specs.NamedSteps.{IsNextNamed}
-use Rattle.graph_steps.specs.StepLinks.{names_at, nowhere, IsAhead, IsLater, IsLast, is_first, next_of, with_next, link_at, with_link, AreLinks, ends_at, first_at, last_at, ends_with, AreNoted, AreEnds, Notes, LeadsTo}
+use Rattle.graph_steps.specs.StepLinks.{names_at, nowhere, IsAhead, IsLater, IsLast, is_first, next_of, with_next, link_at, with_link, AreLinks, no_ends, ends_at, first_at, last_at, ends_with, AreNoted, AreEnds, Notes, LeadsTo}
 
 -- ---- the step at a place
 
@@ -56,9 +57,9 @@ unnamed_more c s i n below h = named_front c s i n below ∙ h
 unnamed_with : (c : List Step) (s : Step) (i n : ℕ) → names n s ≡ false → names_at c i n ≡ false → names_at (c ++ s ∷ []) i n ≡ false
 unnamed_with c s i n off h = elim (cases_Bool (names_at (c ++ s ∷ []) i n)) [
   | inl on ↦ absurd (elim (named_more c s i n on) [
-      | inl there ↦ true≢false (sym there.1 ∙ h)
-      | inr last ↦ true≢false (sym last.1 ∙ off)
-    ])
+    | inl there ↦ true≢false (sym there.1 ∙ h)
+    | inr last ↦ true≢false (sym last.1 ∙ off)
+  ])
   | inr none ↦ none
 ]
 
@@ -95,19 +96,19 @@ count_kept (s ∷ ss) (l ∷ ls) (suc i) n next = ap suc (count_kept ss ls i n n
 first_of_two : (u v m n : ℕ) → (nat_eq m u || nat_eq m v) ≡ true → (nat_eq n u || nat_eq n v) ≡ true → m ≢ n → nat_eq m u ≡ not (nat_eq n u)
 first_of_two u v m n h k d = elim (eqb_tells m u) [
   | inl e ↦ elim (eqb_tells n u) [
-      | inl f ↦ absurd (d (e.1 ∙ sym f.1))
-      | inr x ↦ e.0 ∙ ap not (sym x.0)
-    ]
+    | inl f ↦ absurd (d (e.1 ∙ sym f.1))
+    | inr x ↦ e.0 ∙ ap not (sym x.0)
+  ]
   | inr x ↦ elim (eqb_tells n u) [
-      | inl f ↦ x.0 ∙ ap not (sym f.0)
-      | inr y ↦ elim (eqb_tells m v) [
-          | inl g ↦ elim (eqb_tells n v) [
-              | inl j ↦ absurd (d (g.1 ∙ sym j.1))
-              | inr z ↦ absurd (true≢false (sym k ∙ ap (λ b. b || nat_eq n v) y.0 ∙ z.0))
-            ]
-          | inr z ↦ absurd (true≢false (sym h ∙ ap (λ b. b || nat_eq m v) x.0 ∙ z.0))
-        ]
+    | inl f ↦ x.0 ∙ ap not (sym f.0)
+    | inr y ↦ elim (eqb_tells m v) [
+      | inl g ↦ elim (eqb_tells n v) [
+        | inl j ↦ absurd (d (g.1 ∙ sym j.1))
+        | inr z ↦ absurd (true≢false (sym k ∙ ap (λ b. b || nat_eq n v) y.0 ∙ z.0))
+      ]
+      | inr z ↦ absurd (true≢false (sym h ∙ ap (λ b. b || nat_eq m v) x.0 ∙ z.0))
     ]
+  ]
 ]
 
 same_one : (u m n : ℕ) → nat_eq m u ≡ true → nat_eq n u ≡ true → m ≡ n
@@ -160,14 +161,14 @@ pub leads_there : (c : List Step) (ls : List Links) (ends : List (ℕ × Ends)) 
     → LeadsTo (λ m. nat_eq m n) place c ends ls (with_link c ls last n place)
 leads_there c ls ends n last place count is here i m h = elim (eqb_tells m n) [
   | inl e ↦ elim (eqb_tells i (last_at ends m)) [
-      | inl f ↦ (
-          let where_it_is : i ≡ last = f.1 ∙ ap (last_at ends) e.1 ∙ sym is in
-          ap (λ k. link_at c (with_link c ls last n place) k m) where_it_is ∙ ap (link_at c (with_link c ls last n place) last) e.1 ∙ led_there c ls last n place count here
-          ∙ sym (ap (λ b. if b && nat_eq i (last_at ends m) then place else link_at c ls i m) e.0 ∙ ap (λ b. if b then place else link_at c ls i m) f.0))
-      | inr x ↦
-          led_other c ls last n place i m count here h (λ same eq. x.1 (same ∙ is ∙ ap (last_at ends) (sym eq)))
-          ∙ sym (ap (λ b. if b && nat_eq i (last_at ends m) then place else link_at c ls i m) e.0 ∙ ap (λ b. if b then place else link_at c ls i m) x.0)
-    ]
+    | inl f ↦ (
+        let where_it_is : i ≡ last = f.1 ∙ ap (last_at ends) e.1 ∙ sym is in
+        ap (λ k. link_at c (with_link c ls last n place) k m) where_it_is ∙ ap (link_at c (with_link c ls last n place) last) e.1 ∙ led_there c ls last n place count here
+        ∙ sym (ap (λ b. if b && nat_eq i (last_at ends m) then place else link_at c ls i m) e.0 ∙ ap (λ b. if b then place else link_at c ls i m) f.0))
+    | inr x ↦
+        led_other c ls last n place i m count here h (λ same eq. x.1 (same ∙ is ∙ ap (last_at ends) (sym eq)))
+        ∙ sym (ap (λ b. if b && nat_eq i (last_at ends m) then place else link_at c ls i m) e.0 ∙ ap (λ b. if b then place else link_at c ls i m) x.0)
+  ]
   | inr x ↦ led_other c ls last n place i m count here h (λ same eq. x.1 eq) ∙ sym (ap (λ b. if b && nat_eq i (last_at ends m) then place else link_at c ls i m) x.0)
 ]
 
@@ -250,9 +251,9 @@ first_more c s n p few is on = elim is.ahead.there [
 last_more : (c : List Step) (s : Step) (n : ℕ) → names n s ≡ true → IsLast n (c ++ s ∷ []) (length c)
 last_more c s n on = record {
   last = λ k h. (
-      (let within = named_within (c ++ s ∷ []) k n h in let len = length-append c (s ∷ []) in omega (arith, within, len)),
-      named_last c s n ∙ on,
-    );
+    (let within = named_within (c ++ s ∷ []) k n h in let len = length-append c (s ∷ []) in omega (arith, within, len)),
+    named_last c s n ∙ on,
+  );
   there = inl (named_last c s n ∙ on);
 }
 
@@ -313,21 +314,21 @@ link_more : (c : List Step) (s : Step) (i n last p : ℕ) → length c < nowhere
     → IsLater n (c ++ s ∷ []) (i + 1) (if names n s && nat_eq i last then length c else p)
 link_more c s i n last p few here is next = elim (cases_Bool (names n s)) [
   | inl on ↦ subst (λ b. IsLater n (c ++ s ∷ []) (i + 1) (if b && nat_eq i last then length c else p)) (sym on) (elim (eqb_tells i last) [
-      | inl e ↦ subst (λ b. IsLater n (c ++ s ∷ []) (i + 1) (if b then length c else p)) (sym e.0) (
-          now_last c s n (i + 1) (let within = named_within c i n here in omega (arith, within)) on (λ k h b. elim (cases_Bool (names_at c k n)) [
-            | inl there ↦ absurd (let most = (is.last k there).0 in let same = e.1 in omega (arith, most, same, h))
-            | inr off ↦ off
-          ]))
-      | inr x ↦ subst (λ b. IsLater n (c ++ s ∷ []) (i + 1) (if b then length c else p)) (sym x.0) (elim next.ahead.there [
-          | inl there ↦ later_there c s n (i + 1) p next there
-          | inr e ↦ absurd (
-              let most = is.last i here in
-              let within = named_within c last n most.1 in
-              let low = most.0 in
-              let beyond : i + 1 ≤ last = elim (cases_lt i last) [ inl below ↦ omega (arith, below) | inr above ↦ absurd (x.1 (omega (arith, above, low))) ] in
-              true≢false (sym most.1 ∙ next.ahead.between last beyond (omega (arith, within, few, e))))
-        ])
+    | inl e ↦ subst (λ b. IsLater n (c ++ s ∷ []) (i + 1) (if b then length c else p)) (sym e.0) (
+        now_last c s n (i + 1) (let within = named_within c i n here in omega (arith, within)) on (λ k h b. elim (cases_Bool (names_at c k n)) [
+          | inl there ↦ absurd (let most = (is.last k there).0 in let same = e.1 in omega (arith, most, same, h))
+          | inr off ↦ off
+        ]))
+    | inr x ↦ subst (λ b. IsLater n (c ++ s ∷ []) (i + 1) (if b then length c else p)) (sym x.0) (elim next.ahead.there [
+      | inl there ↦ later_there c s n (i + 1) p next there
+      | inr e ↦ absurd (
+          let most = is.last i here in
+          let within = named_within c last n most.1 in
+          let low = most.0 in
+          let beyond : i + 1 ≤ last = elim (cases_lt i last) [ inl below ↦ omega (arith, below) | inr above ↦ absurd (x.1 (omega (arith, above, low))) ] in
+          true≢false (sym most.1 ∙ next.ahead.between last beyond (omega (arith, within, few, e))))
     ])
+  ])
   | inr off ↦ subst (λ b. IsLater n (c ++ s ∷ []) (i + 1) (if b && nat_eq i last then length c else p)) (sym off) (later_kept c s n (i + 1) p next off)
 ]
 
@@ -359,7 +360,7 @@ pub links_more : (ss : List Asked) (s : Step) (ends : List (ℕ × Ends)) (old n
 links_more ss s ends old new all l few are links same leads is joined =
     let len = length-map ss step_of in
     subst (AreLinks (steps_of ss ++ s ∷ [])) (sym (joined ∙ ap (λ x. new ++ x ∷ []) is)) (
-      links_joined (steps_of ss) s ends old new (omega (arith, few, len)) are links same (subst (λ k. LeadsTo (λ m. names m s) k (steps_of ss) ends old new) (sym len) leads))
+    links_joined (steps_of ss) s ends old new (omega (arith, few, len)) are links same (subst (λ k. LeadsTo (λ m. names m s) k (steps_of ss) ends old new) (sym len) leads))
 
 -- ---- the next step that names a node
 
@@ -415,3 +416,22 @@ ahead_there c n from place below few is = elim is.there [
   | inl on ↦ on
   | inr e ↦ absurd (omega (arith, e, below, few))
 ]
+
+-- ---- whether some step names the node
+
+none_named : (c : List Step) (n : ℕ) → ((k : ℕ) → names_at c k n ≡ false) → is_named c n ≡ false
+none_named [] n h = refl
+none_named (s ∷ ss) n h = ap (λ b. b || is_named ss n) (h 0) ∙ none_named ss n (λ k. h (suc k))
+
+pub named_noted : (c : List Step) (ends : List (ℕ × Ends)) (n : ℕ) → length c ≤ nowhere → AreNoted c ends → is_named c n ≡ true → is_some (lookup (nat_eq n) ends) ≡ true
+named_noted c ends n few are named = elim (cases_Bool (is_some (lookup (nat_eq n) ends))) [
+  | inl on ↦ on
+  | inr off ↦ absurd (true≢false (sym named ∙ none_named c n (λ k. elim (cases_lt k (length c)) [
+    | inl below ↦ (are.first n).ahead.between k (omega arith) (let far = beyond (lookup (nat_eq n) ends) off in omega (arith, below, few, far))
+    | inr above ↦ past_end c k n above
+  ])))
+]
+  where
+    beyond : (o : Option Ends) → is_some o ≡ false → (unwrap_or o no_ends).first ≡ nowhere
+    beyond None h = refl
+    beyond (Some e) h = absurd (true≢false h)

@@ -175,9 +175,83 @@ fn steps_and_names(rt: HostRuntime) -> Result<(), Fail> {
     assert!(rt; !change.may_name(3) && is_dropped(change.steps(), 2));
     change.push(step_of(rt.alloc(), Relabel(3, b'b'))?)?;
     assert!(rt; change.may_name(3) && !is_dropped(change.steps(), 3));
-    let (first, last) = (change.span(2), change.span(3));
-    assert!(rt; (first.first, first.past) == (0, 1) && (last.first, last.past) == (2, 3));
     let whole = change.whole();
-    assert!(rt; whole.is_dropped(2) && !whole.is_dropped(0) && whole.naming(0, 3).len() == 1);
+    assert!(rt; whole.is_dropped(2) && !whole.is_dropped(0));
+    Ok(())
+}
+
+// Node 7 is named by the steps at 0, 3 and 5, node 8 twice by that at 6, and node 9 by none.
+const NAMING: &[Plain] = &[
+    Link(7, 1),
+    Link(1, 2),
+    Gone(2),
+    Relabel(7, b'b'),
+    Node(b'a'),
+    Unlink(1, 7),
+    Link(8, 8),
+    Link(1, 8),
+];
+
+// A node, a place, and where the first step from there on is that names the node.
+const NEXT: &[(NodeId, usize, usize)] = &[
+    (7, 0, 0),
+    (7, 1, 3),
+    (7, 2, 3),
+    (7, 4, 5),
+    (7, 6, 8),
+    (7, 8, 8),
+    (1, 1, 1),
+    (1, 2, 5),
+    (1, 6, 7),
+    (8, 0, 6),
+    (8, 7, 7),
+    (9, 0, 8),
+];
+
+// The same of the first steps, so many.
+const NEXT_BEFORE: &[(usize, NodeId, usize, usize)] = &[
+    (6, 7, 4, 5),
+    (5, 7, 1, 3),
+    (5, 7, 4, 5),
+    (3, 7, 1, 3),
+    (1, 7, 0, 0),
+    (0, 7, 0, 0),
+    (7, 8, 7, 7),
+];
+
+fn check_next(rt: &impl Abort, change: &Change) {
+    for (n, from, place) in NEXT {
+        if *from <= change.steps().len() {
+            assert!(rt; change.next_naming(*from, *n) == *place, "{n} {from}");
+        }
+    }
+}
+
+fn check_next_before(rt: &impl Abort, change: &Change) {
+    for (past, n, from, place) in NEXT_BEFORE {
+        if *past <= change.steps().len() && *from <= *past {
+            assert!(rt;
+                change.front(*past).next_naming(*from, *n) == *place,
+                "{past} {n} {from}"
+            );
+        }
+    }
+}
+
+#[test]
+fn next_steps_that_name_a_node(rt: HostRuntime) -> Result<(), Fail> {
+    let change = change_of(rt.alloc(), NAMING)?;
+    assert!(rt; change.steps().len() == 8);
+    check_next(&rt, &change);
+    check_next_before(&rt, &change);
+    Ok(())
+}
+
+// A change of one step notes nothing of its nodes.
+#[test]
+fn next_step_of_one(rt: HostRuntime) -> Result<(), Fail> {
+    let change = Change::one(rt.alloc(), Step::Link(3, 5))?;
+    assert!(rt; change.next_naming(0, 5) == 0 && change.next_naming(1, 5) == 1);
+    assert!(rt; change.next_naming(0, 4) == 1 && change.whole().next_naming(0, 3) == 0);
     Ok(())
 }

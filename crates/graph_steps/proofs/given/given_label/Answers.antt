@@ -1,8 +1,7 @@
 use Rattle.std.proofs.Common.{◌<◌, ◌∙◌, ap, sym, arith, length}
 use Rattle.std.specs.Option.{option_or}
 use Rattle.graph_spec.specs.Graphs.{label_of}
-use Rattle.graph_steps.specs.StepLists.{steps_of}
-use Rattle.graph_steps.proofs.GivenLabels.{part_relabelled, relabelled_label, added_earlier}
+use Rattle.graph_steps.proofs.GivenLabels.{relabelled_label, added_earlier}
 use Rattle.graph_steps.proofs.given.given_label.Goals as goal
 
 pub returns-then-n-created : goal.returns-then-n-created
@@ -12,7 +11,7 @@ returns-then-n-created c =
     let n = c.args.n in
     let below : n < length g.allocated = omega (arith, c.if-n-created.true, c.created-created.ensures.count) in
     relabelled_label f g n below c.requires.can c.requires.live
-    ∙ ap (λ o. option_or o (label_of g n)) (sym (c.relabelled.ensures ∙ part_relabelled f (steps_of c.naming.result.now) n c.naming.ensures))
+    ∙ ap (λ o. option_or o (label_of g n)) (sym c.relabelled.ensures)
 
 pub added_label-requires : goal.added_label-requires
 added_label-requires c =

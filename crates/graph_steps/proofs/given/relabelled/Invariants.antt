@@ -1,8 +1,11 @@
-use Rattle.std.proofs.Common.{◌≡◌, take}
+use Rattle.std.proofs.Common.{◌≡◌, ◌≤◌, ◌-◌, length}
 use Rattle.std.specs.Prelude.{option_map}
-use Rattle.graph_steps.specs.StepLists.{steps_of}
 use Rattle.graph_steps.specs.GivenLabels.{relabelled}
+use Rattle.graph_steps.proofs.NamedParts.{stretch}
 use Rattle.graph_steps.proofs.given.relabelled.Given as goal
 
 abbrev pub invariant-loop-i : goal.invariant-loop-i
-invariant-loop-i l = option_map (λ t. t.now) l.given ≡ relabelled (steps_of (take l.i l.steps)) l.n
+invariant-loop-i l = (l.from ≤ l.i) × (l.i ≤ length l.front) × (option_map (λ t. t.now) l.given ≡ relabelled (stretch l.front l.from l.i) l.n)
+
+abbrev pub decreases-loop-i : goal.decreases-loop-i
+decreases-loop-i l = length l.front - l.i
