@@ -1,8 +1,8 @@
 -- The nodes that get another label by a list of steps, each once.
-use Rattle.std.proofs.Common.{◌≡◌, ◌≢◌, ◌≤◌, ℕ, zero, suc, Bool, true, false, List, [], ◌∷◌, ◌++◌, length, drop as drop_first, Option, Some, None, is_some, refl, sym, ap, ◌∙◌, subst, arith, inl, inr, true≢false, cond}
+use Rattle.std.proofs.Common.{◌≡◌, ◌≢◌, ◌≤◌, ℕ, zero, suc, Bool, true, false, List, [], ◌∷◌, ◌++◌, length, drop as drop_first, Option, Some, None, is_some, refl, sym, ap, ◌∙◌, arith, inl, inr, true≢false, cond}
 use Rattle.std.specs.Prelude.{nat_eq, ◌&&◌, ◌||◌, not, slice_get, bytes_eq}
 use Rattle.std.specs.List.{list_any, IsDistinct}
-use Rattle.std.proofs.Math.Bool.{or-false, and-false, and-true}
+use Rattle.std.proofs.Math.Bool.{and-false}
 use Rattle.std.proofs.lemmas.Bool.{cases_Bool, and_parts, or_parts}
 use Rattle.std.proofs.lemmas.Bool.Decides.{eqb_tells, Decides-eqb}
 use Rattle.std.proofs.lemmas.List.{append_assoc, append-nil, drop_all}
@@ -12,7 +12,7 @@ use Rattle.std.proofs.lemmas.Slice.Eq.{bytes_eq-Decides}
 use Rattle.graph_spec.specs.Graphs.{Graph, IsGraph, is_live, is_seen, label_of}
 use Rattle.graph_spec.specs.Members.{has, Lists}
 use Rattle.label_graph.specs.GraphViews.{label_number}
-use Rattle.label_graph.proofs.Positions.{text-at, position-at}
+use Rattle.label_graph.proofs.Positions.{position-at}
 use Rattle.change_spec.specs.Steps.{Step, node, link, unlink, drop, relabel, made, after, is_text}
 use Rattle.change_spec.specs.Places.{CanMakeAll}
 use Rattle.change_spec.proofs.StepGraphs.{label_other, label_gone}
