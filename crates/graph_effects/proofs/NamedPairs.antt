@@ -1,5 +1,5 @@
 -- The pairs that steps name, each once, and what happens to all others.
-use Rattle.std.proofs.Common.{◌≡◌, ◌≢◌, ◌≤◌, ℕ, Bool, true, false, List, [], ◌∷◌, ◌++◌, length, drop as drop_first, Option, refl, sym, ap, ◌∙◌, subst, inl, inr, true≢false}
+use Rattle.std.proofs.Common.{◌≡◌, ◌≢◌, ◌≤◌, ℕ, ◌+◌, ◌-◌, Bool, true, false, List, [], ◌∷◌, ◌++◌, length, take, drop as drop_first, Option, refl, sym, ap, ◌∙◌, subst, inl, inr, true≢false}
 use Rattle.std.specs.Prelude.{nat_eq, ◌&&◌, ◌||◌, not}
 use Rattle.std.specs.List.{list_any, IsDistinct}
 use Rattle.std.proofs.Math.Bool.{or-false, and-false, and-true}
@@ -14,16 +14,11 @@ use Rattle.change_spec.specs.Places.{CanMakeAll}
 use Rattle.change_spec.specs.Named.{names, takes_away, is_named, is_dropped}
 use Rattle.change_spec.specs.Shown.{concerns, concerned}
 use Rattle.change_spec.proofs.ShownNeighbours.{edge_all, unconcerned}
-use Rattle.graph_steps.specs.declared.changes.Step.{Step as Asked}
-use Rattle.graph_steps.specs.StepLists.{step_of, steps_of}
-use Rattle.graph_steps.specs.NamedSteps.{AreNaming}
+use Rattle.graph_steps.specs.NamedSteps.{IsNextNamed}
+use Rattle.graph_update.proofs.NamedParts.{parted}
 use Rattle.graph_effects.specs.Effects.{same_pair, has_pair, ListsPairs, is_new_edge}
 use Rattle.graph_effects.specs.StepEffects.{pair_if, names_pair, unless_named, named_last, passing, named_where, is_cut}
 use Rattle.graph_effects.proofs.GoneNodes.{none_in, undropped}
-
-pub named_map : (ss : List Asked) (u v : ℕ) → list_any (λ s. names_pair u v (step_of s)) ss ≡ list_any (names_pair u v) (steps_of ss)
-named_map [] u v = refl
-named_map (s ∷ ss) u v = ap (λ b. names_pair u v (step_of s) || b) (named_map ss u v)
 
 pub if_has_pair : (b : Bool) (e : ℕ × ℕ) (u v : ℕ) → has_pair (pair_if b e) u v ≡ (b && same_pair (u, v) e)
 if_has_pair true e u v = or-false (same_pair (u, v) e)
@@ -220,14 +215,20 @@ unnamed_onto (s ∷ ss) u v h =
     one (drop w) h = refl
     one (relabel w t) h = refl
 
--- a test that fails in front and behind
-pub within : (p : Step → Bool) (before part behind c : List Step) → c ≡ before ++ (part ++ behind) → list_any p before ≡ false → list_any p behind ≡ false → list_any p part ≡ list_any p c
-within p before part behind c whole front back = sym (
-    ap (list_any p) whole ∙ list_any-append p before (part ++ behind) ∙ ap (λ b. b || list_any p (part ++ behind)) front
-    ∙ list_any-append p part behind ∙ ap (λ b. list_any p part || b) back ∙ or-false (list_any p part))
+-- a test that fails at steps which don't name a node holds of those from a place on where it does of those from the next that names it
+pub any_next : (p : Step → Bool) (c : List Step) (n from place : ℕ) → ((xs : List Step) → is_named xs n ≡ false → list_any p xs ≡ false) → IsNextNamed n c from place
+    → list_any p (drop_first place c) ≡ list_any p (drop_first from c)
+any_next p c n from place fails is = sym (
+    ap (list_any p) (parted c from place is.ordered) ∙ list_any-append p (take (place - from) (drop_first from c)) (drop_first place c)
+    ∙ ap (λ b. b || list_any p (drop_first place c)) (fails (take (place - from) (drop_first from c)) is.between))
 
-pub named_of_from : (c part : List Step) (u v : ℕ) → AreNaming u c part → list_any (names_pair u v) part ≡ list_any (names_pair u v) c
-named_of_from c part u v a = within (names_pair u v) a.before part a.behind c a.whole (unnamed_from a.before u v a.unnamed) (unnamed_from a.behind u v a.over)
+-- the step at a place, and those behind it
+pub any_there : (p : Step → Bool) (c : List Step) (i : ℕ) (s : Step) (here : Bool) → drop_first i c ≡ s ∷ drop_first (i + 1) c → here ≡ p s
+    → list_any p (drop_first i c) ≡ (here || list_any p (drop_first (i + 1) c))
+any_there p c i s here is e = ap (list_any p) is ∙ ap (λ b. b || list_any p (drop_first (i + 1) c)) (sym e)
 
-pub named_of_onto : (c part : List Step) (u v : ℕ) → AreNaming v c part → list_any (names_pair u v) part ≡ list_any (names_pair u v) c
-named_of_onto c part u v a = within (names_pair u v) a.before part a.behind c a.whole (unnamed_onto a.before u v a.unnamed) (unnamed_onto a.behind u v a.over)
+pub begin_next : (c : List Step) (u v from place : ℕ) → IsNextNamed u c from place → list_any (names_pair u v) (drop_first place c) ≡ list_any (names_pair u v) (drop_first from c)
+begin_next c u v from place is = any_next (names_pair u v) c u from place (λ xs h. unnamed_from xs u v h) is
+
+pub end_next : (c : List Step) (u v from place : ℕ) → IsNextNamed v c from place → list_any (names_pair u v) (drop_first place c) ≡ list_any (names_pair u v) (drop_first from c)
+end_next c u v from place is = any_next (names_pair u v) c v from place (λ xs h. unnamed_onto xs u v h) is

@@ -1,8 +1,8 @@
 -- The nodes that get another label by a list of steps, each once.
-use Rattle.std.proofs.Common.{◌≡◌, ◌≢◌, ◌≤◌, ℕ, zero, suc, Bool, true, false, List, [], ◌∷◌, ◌++◌, length, drop as drop_first, Option, Some, None, is_some, refl, sym, ap, ◌∙◌, subst, arith, inl, inr, true≢false, cond}
+use Rattle.std.proofs.Common.{◌≡◌, ◌≢◌, ◌≤◌, ℕ, zero, suc, Bool, true, false, List, [], ◌∷◌, ◌++◌, length, drop as drop_first, Option, Some, None, is_some, refl, sym, ap, ◌∙◌, arith, inl, inr, true≢false, cond}
 use Rattle.std.specs.Prelude.{nat_eq, ◌&&◌, ◌||◌, not, slice_get, bytes_eq}
 use Rattle.std.specs.List.{list_any, IsDistinct}
-use Rattle.std.proofs.Math.Bool.{or-false, and-false, and-true}
+use Rattle.std.proofs.Math.Bool.{and-false}
 use Rattle.std.proofs.lemmas.Bool.{cases_Bool, and_parts, or_parts}
 use Rattle.std.proofs.lemmas.Bool.Decides.{eqb_tells, Decides-eqb}
 use Rattle.std.proofs.lemmas.List.{append_assoc, append-nil, drop_all}
@@ -12,23 +12,17 @@ use Rattle.std.proofs.lemmas.Slice.Eq.{bytes_eq-Decides}
 use Rattle.graph_spec.specs.Graphs.{Graph, IsGraph, is_live, is_seen, label_of}
 use Rattle.graph_spec.specs.Members.{has, Lists}
 use Rattle.label_graph.specs.GraphViews.{label_number}
-use Rattle.label_graph.proofs.Positions.{text-at, position-at}
+use Rattle.label_graph.proofs.Positions.{position-at}
 use Rattle.change_spec.specs.Steps.{Step, node, link, unlink, drop, relabel, made, after, is_text}
 use Rattle.change_spec.specs.Places.{CanMakeAll}
 use Rattle.change_spec.proofs.StepGraphs.{label_other, label_gone}
 use Rattle.change_spec.proofs.StepPlaces.{label_added, live_given, given_made, gone_stays}
-use Rattle.graph_steps.specs.declared.changes.Step.{Step as Asked}
 use Rattle.change_spec.specs.Named.{names, is_named}
-use Rattle.graph_steps.specs.StepLists.{step_of, steps_of}
-use Rattle.graph_steps.specs.NamedSteps.{AreNaming}
+use Rattle.graph_steps.specs.NamedSteps.{IsNextNamed}
 use Rattle.graph_effects.specs.Effects.{is_same_label, is_relabelled}
 use Rattle.graph_effects.specs.StepEffects.{node_if, relabels, relabelled_last, relabelled_where}
 use Rattle.graph_effects.proofs.GoneNodes.{if_has, none_in, no_numbers}
-use Rattle.graph_effects.proofs.NamedPairs.{within}
-
-pub relabels_map : (ss : List Asked) (n : ℕ) → list_any (λ s. relabels n (step_of s)) ss ≡ list_any (relabels n) (steps_of ss)
-relabels_map [] n = refl
-relabels_map (s ∷ ss) n = ap (λ b. relabels n (step_of s) || b) (relabels_map ss n)
+use Rattle.graph_effects.proofs.NamedPairs.{any_next}
 
 -- ---- labels keep their numbers
 
@@ -162,8 +156,8 @@ unnamed_none (s ∷ ss) n h =
     one (drop w) h = refl
     one (relabel w t) h = h
 
-pub part_relabels : (c part : List Step) (n : ℕ) → AreNaming n c part → list_any (relabels n) part ≡ list_any (relabels n) c
-part_relabels c part n a = within (relabels n) a.before part a.behind c a.whole (unnamed_none a.before n a.unnamed) (unnamed_none a.behind n a.over)
+pub label_next : (c : List Step) (n from place : ℕ) → IsNextNamed n c from place → list_any (relabels n) (drop_first place c) ≡ list_any (relabels n) (drop_first from c)
+label_next c n from place is = any_next (relabels n) c n from place (λ xs h. unnamed_none xs n h) is
 
 where_has : (p : ℕ → Bool) (c : List Step) (n : ℕ) → has (relabelled_where p c) n ≡ (p n && list_any (relabels n) c)
 where_has p [] n = sym (and-false (p n))

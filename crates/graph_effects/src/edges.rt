@@ -1,5 +1,5 @@
 // The edges that come and go with a change.
-ghost use Rattle.std.specs.Prelude.{◌≡◌, ◌≤◌, ◌+◌, ◌*◌, ◌++◌, ◌&&◌, ◌||◌, not, ℕ, Bool, true, false, nat_eq, OnOk, length, drop};
+ghost use Rattle.std.specs.Prelude.{◌≡◌, ◌<◌, ◌≤◌, ◌+◌, ◌*◌, ◌++◌, ◌&&◌, ◌||◌, not, ℕ, Bool, true, false, nat_eq, OnOk, length, drop};
 ghost use Rattle.std.specs.List.{list_any};
 ghost use Rattle.graph_spec.specs.Graphs.{is_live};
 ghost use Rattle.graph_spec.specs.Members.{Lists};
@@ -7,12 +7,13 @@ ghost use Rattle.graph_spec.specs.Shapes.{shape_of};
 ghost use Rattle.bisim_spec.specs.NodeEdges.{edges_from};
 ghost use Rattle.bisim_spec.specs.Weights.{weight_at, weight};
 ghost use Rattle.change_spec.specs.Costs.{is_gone};
-ghost use Rattle.graph_steps.specs.StepLists.{step_of, steps_of};
+ghost use Rattle.graph_steps.specs.StepLists.{step_of};
 ghost use Rattle.graph_update.specs.PendingChanges.{graph_after};
 ghost use Rattle.graph_effects.specs.Effects.{ListsPairs, is_new_node, is_new_edge};
 ghost use Rattle.graph_effects.specs.StepEffects.{pair_if, names_pair as naming, unless_named as pair_unless, named_last as pair_last};
 ghost use Rattle.graph_effects.specs.StepEffects.{passing, named_where, is_cut, edges_from_live, goes_with};
 
+use crate::places::{step_at, step_count};
 use graph_steps::{Change, Step};
 use graph_update::After;
 use label_graph::Graph;
@@ -39,31 +40,34 @@ fn names_pair(step: &Step, p: NodeId, n: NodeId) -> bool
     }
 }
 
-// Whether one of the steps does so.
-fn any_names(steps: &[Step], p: NodeId, n: NodeId) -> bool
-    ensures { result ≡ list_any (λ s. naming p n (step_of s)) steps.now }
+// Whether the step at a place does so.
+fn is_named_by(change: &Change, i: usize, u: NodeId, v: NodeId) -> bool
+    requires { i < length change.now }
+    ensures { list_any (naming u v) (drop i change.now) ≡ (result || list_any (naming u v) (drop (i + 1) change.now)) }
 {
-    steps.iter().any(|s| names_pair(s, p, n))
+    names_pair(step_at(change, i), u, v)
 }
 
-// The same, said of the steps that they stand for.
-fn is_named(steps: &[Step], p: NodeId, n: NodeId) -> bool
-    ensures { result ≡ list_any (naming p n) (steps_of steps.now) }
-{
-    any_names(steps, p, n)
-}
-
-// Whether a step from a place on does so. It names both ends.
+// Whether a step from a place on does so. It names both ends, so the steps that name the one and those that name the other
+// are gone through side by side, until either end.
 fn is_named_from(change: &Change, from: usize, u: NodeId, v: NodeId) -> bool
     requires { from ≤ length change.now }
     ensures { result ≡ list_any (naming u v) (drop from change.now) }
 {
-    let whole = change.whole();
-    let (begin, end) = (whole.naming(from, u), whole.naming(from, v));
-    if begin.len() <= end.len() {
-        return is_named(begin, u, v);
+    let len = step_count(change);
+    let mut i = change.next_naming(from, u);
+    let mut j = change.next_naming(from, v);
+    'steps: while i < len && j < len {
+        if is_named_by(change, i, u, v) {
+            return true;
+        }
+        if is_named_by(change, j, u, v) {
+            return true;
+        }
+        i = change.next_naming(i + 1, u);
+        j = change.next_naming(j + 1, v);
     }
-    is_named(end, u, v)
+    false
 }
 
 // The pair, unless a step from a place on names it.
@@ -162,7 +166,8 @@ fn sort_step<L: Ledger>(
 }
 
 /// The edges between nodes that stay which go, and all edges that come: the steps name them. Each pair that they name is
-/// looked up once in the graph, and once among the steps from the first to the last that names an end.
+/// looked up once in the graph, and for each step that names it among the steps that name an end, for the end where these
+/// are fewer.
 pub(crate) fn sort_named<L: Ledger>(
     graph: &Graph,
     change: &Change,

@@ -5,6 +5,7 @@
 mod edges;
 mod effects;
 mod nodes;
+mod places;
 mod relabelling;
 mod stepping;
 

@@ -1,14 +1,15 @@
 // The nodes that get another label with a change.
-ghost use Rattle.std.specs.Prelude.{◌≡◌, ◌≤◌, ◌++◌, ◌&&◌, not, IfOk, IsTrue, OnOk, length, drop};
+ghost use Rattle.std.specs.Prelude.{◌≡◌, ◌<◌, ◌≤◌, ◌+◌, ◌++◌, ◌&&◌, ◌||◌, not, IfOk, IsTrue, OnOk, length, drop};
 ghost use Rattle.std.specs.List.{list_any};
 ghost use Rattle.graph_spec.specs.Graphs.{is_live};
 ghost use Rattle.graph_spec.specs.Members.{Lists};
-ghost use Rattle.graph_steps.specs.StepLists.{step_of, steps_of};
+ghost use Rattle.graph_steps.specs.StepLists.{step_of};
 ghost use Rattle.graph_update.specs.PendingChanges.{graph_after};
 ghost use Rattle.graph_effects.specs.Effects.{is_relabelled};
 ghost use Rattle.graph_effects.specs.StepEffects.{relabels, relabelled_last, relabelled_where};
 
 use crate::nodes::note_if;
+use crate::places::{step_at, step_count};
 use graph_steps::{Change, Step};
 use graph_update::After;
 use label_graph::Graph;
@@ -25,18 +26,12 @@ fn relabels(step: &Step, n: NodeId) -> bool
     }
 }
 
-// Whether one of the steps does so.
-fn any_relabels(steps: &[Step], n: NodeId) -> bool
-    ensures { result ≡ list_any (λ s. relabels n (step_of s)) steps.now }
+// Whether the step at a place does so.
+fn is_given_by(change: &Change, i: usize, n: NodeId) -> bool
+    requires { i < length change.now }
+    ensures { list_any (relabels n) (drop i change.now) ≡ (result || list_any (relabels n) (drop (i + 1) change.now)) }
 {
-    steps.iter().any(|s| relabels(s, n))
-}
-
-// The same, said of the steps that they stand for.
-fn is_given_label(steps: &[Step], n: NodeId) -> bool
-    ensures { result ≡ list_any (relabels n) (steps_of steps.now) }
-{
-    any_relabels(steps, n)
+    relabels(step_at(change, i), n)
 }
 
 // Whether a step from a place on does so. It names the node.
@@ -44,7 +39,15 @@ fn is_given_from(change: &Change, from: usize, n: NodeId) -> bool
     requires { from ≤ length change.now }
     ensures { result ≡ list_any (relabels n) (drop from change.now) }
 {
-    is_given_label(change.whole().naming(from, n), n)
+    let len = step_count(change);
+    let mut i = change.next_naming(from, n);
+    while i < len {
+        if is_given_by(change, i, n) {
+            return true;
+        }
+        i = change.next_naming(i + 1, n);
+    }
+    false
 }
 
 // Whether a node of both graphs has another label in the second.

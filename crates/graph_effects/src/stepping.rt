@@ -51,9 +51,9 @@ impl Effects {
     /// What a change that `judge` accepts as new makes of the graph in the end. Each target is a target and an end of the change; a node
     /// may stand more than once among them. It takes at most a step for each step of the change, and twice the weight of
     /// the nodes that go. Expected O(s) for s steps; for each link and unlink what it takes to look up an edge of the graph,
-    /// and the steps from the first to the last that names one of both ends; for each that gives a label what `After::label`
-    /// takes; and O(w) for nodes that go with weight w, O(s) more for each edge between one of them
-    /// and a node that a step names. It takes the memory of the effects. The only error is that memory
+    /// and the steps that name an end, for the end where these are fewer, and where steps take nodes away for both; for each
+    /// that gives a label what `After::label` takes; and O(w) for nodes that go with weight w, and for each edge between one
+    /// of them and a node that steps name these steps. It takes the memory of the effects. The only error is that memory
     /// runs out.
     pub fn of<L: Ledger>(
         alloc: Global,

@@ -1,6 +1,5 @@
 pub mod LabelLaws
 pub mod LabelsAhead
-pub mod Mapped
 pub mod PendingLaws
 pub mod ShownLaws
 pub mod NamedParts

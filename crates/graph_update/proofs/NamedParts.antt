@@ -1,7 +1,7 @@
 -- What steps do at a node, by those of them that name a node, instead of all steps.
-use Rattle.std.proofs.Common.{◌≡◌, ℕ, zero, suc, ◌+◌, ◌<◌, ◌≤◌, false, List, [], ◌∷◌, ◌++◌, length, take, drop, refl, sym, ap, ◌∙◌, arith, inl, inr, nat_eq}
+use Rattle.std.proofs.Common.{◌≡◌, ℕ, zero, suc, ◌+◌, ◌-◌, ◌≤◌, Bool, false, List, [], ◌∷◌, ◌++◌, length, take, drop, refl, sym, ap, ◌∙◌, arith, inl, inr, nat_eq}
 use Rattle.std.specs.Prelude.{◌||◌, Option, None, Some, if◌then◌else◌}
-use Rattle.std.proofs.Math.Bool.{or-false}
+use Rattle.std.proofs.lemmas.List.{drop-drop, take-append-drop, drop_all}
 use Rattle.std.proofs.lemmas.List.Folds.{list_any-append}
 use Rattle.std.proofs.lemmas.Bool.{cases_Bool, or_parts}
 use Rattle.bisim_spec.specs.declared.sides.Side.{Side}
@@ -9,34 +9,72 @@ use Rattle.bisim_spec.specs.declared.sides.Side.TheVariants.{Parents, Children}
 use Rattle.change_spec.specs.Steps.{Step, node, link, unlink, drop as drop_step, relabel}
 use Rattle.change_spec.specs.Named.{names, takes_away, is_named, is_dropped}
 use Rattle.change_spec.specs.Shown.{concerns, concerned}
-use Rattle.graph_steps.specs.NamedSteps.{AreNaming}
-use Rattle.graph_steps.proofs.NamedParts.{none_further, unnamed_further, stays_parts}
-use Rattle.graph_update.specs.NamedSteps.{AreLeft}
-use Rattle.graph_update.specs.ShownNeighbours.{concerned_at, linked_at, unless_later, with_first, new_at}
-use Rattle.graph_update.proofs.ShownLaws.{unnamed_at, unnamed_new}
+use Rattle.graph_steps.specs.NamedSteps.{IsNextNamed}
+use Rattle.graph_update.specs.ShownNeighbours.{concerns_at, concerned_at, linked_at, unless_later, with_first, new_at}
+use Rattle.graph_update.proofs.ShownLaws.{unnamed_at, unnamed_far}
 
--- ---- parts behind a place
+-- ---- the steps up to the next one that names a node
 
-pub stays_further : (c : List Step) (n k : ℕ) → is_dropped c n ≡ false → is_dropped (drop k c) n ≡ false
-stays_further c n k h = none_further (λ s. takes_away s n) k c h
+pub to_place : (c : List Step) (from place : ℕ) → from ≤ place → drop (place - from) (drop from c) ≡ drop place c
+to_place c from place ordered =
+    let sum : from + (place - from) ≡ place = omega (arith, ordered) in
+    drop-drop (place - from) from c ∙ ap (λ k. drop k c) sum
 
--- no step of either end concerns the edge of a node that stays
-unconcerned_ends : (side : Side) (c part : List Step) (n m : ℕ) (p : AreNaming m c part) → is_dropped c n ≡ false
-    → (concerned_at side p.before n m ≡ false) × (concerned_at side p.behind n m ≡ false)
-unconcerned_ends side c part n m p stays =
-    let front = stays_parts p.before (part ++ p.behind) n (ap (λ k. is_dropped k n) (sym p.whole) ∙ stays) in
-    let back = stays_parts part p.behind n front.1 in
-    (unnamed_at side p.before n m p.unnamed front.0, unnamed_at side p.behind n m p.over back.1)
+-- those in between, and those from there on
+pub parted : (c : List Step) (from place : ℕ) → from ≤ place → drop from c ≡ take (place - from) (drop from c) ++ drop place c
+parted c from place ordered =
+    sym (take-append-drop (place - from) (drop from c)) ∙ ap (λ r. take (place - from) (drop from c) ++ r) (to_place c from place ordered)
+
+stays_there : (c : List Step) (n from place : ℕ) → is_dropped c n ≡ false → is_dropped (take (place - from) (drop from c)) n ≡ false
+stays_there c n from place h =
+    let further = both (take from c) (drop from c) (ap (λ k. is_dropped k n) (take-append-drop from c) ∙ h) in
+    (both (take (place - from) (drop from c)) (drop (place - from) (drop from c)) (ap (λ k. is_dropped k n) (take-append-drop (place - from) (drop from c)) ∙ further.1)).0
+  where
+    both : (xs ys : List Step) → is_dropped (xs ++ ys) n ≡ false → (is_dropped xs n ≡ false) × (is_dropped ys n ≡ false)
+    both xs ys k = or_parts (is_dropped xs n) (is_dropped ys n) (sym (list_any-append (λ s. takes_away s n) xs ys) ∙ k)
 
 joined_at : (side : Side) (xs ys : List Step) (n m : ℕ) → concerned_at side (xs ++ ys) n m ≡ (concerned_at side xs n m || concerned_at side ys n m)
 joined_at Parents xs ys n m = list_any-append (concerns m n) xs ys
 joined_at Children xs ys n m = list_any-append (concerns n m) xs ys
 
-pub part_concerned : (side : Side) (c part : List Step) (n m : ℕ) → AreNaming m c part → is_dropped c n ≡ false → concerned_at side part n m ≡ concerned_at side c n m
-part_concerned side c part n m p stays =
-    let ends = unconcerned_ends side c part n m p stays in
-    sym (ap (λ k. concerned_at side k n m) p.whole ∙ joined_at side p.before (part ++ p.behind) n m ∙ ap (λ b. b || concerned_at side (part ++ p.behind) n m) ends.0
-    ∙ joined_at side part p.behind n m ∙ ap (λ b. concerned_at side part n m || b) ends.1 ∙ or-false (concerned_at side part n m))
+-- where none in between concerns the edge
+past_those : (side : Side) (c : List Step) (n m from place : ℕ) → from ≤ place → concerned_at side (take (place - from) (drop from c)) n m ≡ false
+    → concerned_at side (drop place c) n m ≡ concerned_at side (drop from c) n m
+past_those side c n m from place ordered none = sym (
+    ap (λ k. concerned_at side k n m) (parted c from place ordered) ∙ joined_at side (take (place - from) (drop from c)) (drop place c) n m
+    ∙ ap (λ b. b || concerned_at side (drop place c) n m) none)
+
+-- none that doesn't name the neighbour of a node that stays does
+pub neighbour_next : (side : Side) (c : List Step) (n m from place : ℕ) → is_dropped c n ≡ false → IsNextNamed m c from place
+    → concerned_at side (drop place c) n m ≡ concerned_at side (drop from c) n m
+neighbour_next side c n m from place stays is =
+    past_those side c n m from place is.ordered (unnamed_at side (take (place - from) (drop from c)) n m is.between (stays_there c n from place stays))
+
+-- nor one that doesn't name the node, where its neighbour stays
+pub node_next : (side : Side) (c : List Step) (n m from place : ℕ) → is_dropped c m ≡ false → IsNextNamed n c from place
+    → concerned_at side (drop place c) n m ≡ concerned_at side (drop from c) n m
+node_next side c n m from place stays is =
+    past_those side c n m from place is.ordered (unnamed_far side (take (place - from) (drop from c)) n m is.between (stays_there c m from place stays))
+
+-- ---- the step at a place
+
+pub concerned_there : (side : Side) (c : List Step) (n m i : ℕ) (s : Step) (here : Bool) → drop i c ≡ s ∷ drop (i + 1) c → here ≡ concerns_at side s n m
+    → concerned_at side (drop i c) n m ≡ (here || concerned_at side (drop (i + 1) c) n m)
+concerned_there side c n m i s here is e =
+    ap (λ k. concerned_at side k n m) is ∙ first side ∙ ap (λ b. b || concerned_at side (drop (i + 1) c) n m) (sym e)
+  where
+    first : (side : Side) → concerned_at side (s ∷ drop (i + 1) c) n m ≡ (concerns_at side s n m || concerned_at side (drop (i + 1) c) n m)
+    first Parents = refl
+    first Children = refl
+
+-- what doesn't hold of it holds behind it, and at the next place
+pub passed_there : (there here behind next whole : Bool) → there ≡ (here || behind) → here ≡ false → next ≡ behind → there ≡ whole → next ≡ whole
+passed_there there here behind next whole parts off further same = further ∙ sym (parts ∙ ap (λ b. b || behind) off) ∙ same
+
+-- where none is left behind it
+pub none_there : (side : Side) (c : List Step) (n m place : ℕ) (whole : Bool) → length c ≤ place → concerned_at side (drop place c) n m ≡ whole → false ≡ whole
+none_there Parents c n m place whole past same = sym (ap (λ k. concerned k m n) (drop_all place c past)) ∙ same
+none_there Children c n m place whole past same = sym (ap (λ k. concerned k n m) (drop_all place c past)) ∙ same
 
 -- ---- neighbours that come
 
@@ -81,7 +119,7 @@ no_link Parents (link u v) n h = ap (λ b. if b then Some u else None) (or_parts
 no_link Children (link u v) n h = ap (λ b. if b then Some v else None) (or_parts (nat_eq n u) (nat_eq n v) h).0
 
 -- none comes with steps that don't name the node
-pub new_behind : (side : Side) (c : List Step) (n k : ℕ) → is_named (take k c) n ≡ false → new_at side (drop k c) n ≡ new_at side c n
+new_behind : (side : Side) (c : List Step) (n k : ℕ) → is_named (take k c) n ≡ false → new_at side (drop k c) n ≡ new_at side c n
 new_behind side c n zero h = refl
 new_behind side [] n (suc k) h = refl
 new_behind side (s ∷ ss) n (suc k) h =
@@ -89,14 +127,9 @@ new_behind side (s ∷ ss) n (suc k) h =
     new_behind side ss n k both.1
     ∙ sym (step_comes side s ss n ∙ ap (λ o. with_first (unless_later side ss n o) (new_at side ss n)) (no_link side s n both.0))
 
-pub none_left : (side : Side) (c : List Step) (n past i : ℕ) → past ≤ i → is_named (drop past c) n ≡ false → new_at side (drop i c) n ≡ []
-none_left side c n past i h over = unnamed_new side (drop i c) n (unnamed_further c n past i h over)
+pub new_next : (side : Side) (c : List Step) (n from place : ℕ) → IsNextNamed n c from place → new_at side (drop place c) n ≡ new_at side (drop from c) n
+new_next side c n from place is = ap (λ k. new_at side k n) (sym (to_place c from place is.ordered)) ∙ new_behind side (drop from c) n (place - from) is.between
 
--- what is left to be read behind a place
-pub left_behind : (c : List Step) (n from i past : ℕ) → AreLeft c n from past → from ≤ i → i < past → AreLeft c n (i + 1) past
-left_behind c n from i past left low below = record {
-  ordered = omega (arith, below);
-  within = left.within;
-  over = left.over;
-  stays = λ h. left.stays (omega (arith, low, below));
-}
+pub none_left : (side : Side) (c : List Step) (n i : ℕ) → length c ≤ i → new_at side (drop i c) n ≡ []
+none_left Parents c n i past = ap (λ k. new_at Parents k n) (drop_all i c past)
+none_left Children c n i past = ap (λ k. new_at Children k n) (drop_all i c past)

@@ -1,10 +1,9 @@
 -- The neighbours that are shown on one side of a node, and what it costs to read them.
-use Rattle.std.proofs.Common.{◌≡◌, ℕ, zero, suc, nat_eq, ◌+◌, ◌-◌, ◌<◌, ◌≤◌, Bool, true, false, List, [], ◌∷◌, ◌++◌, length, take, get_or, refl, sym, ap, ◌∙◌, arith, inl, inr, true≢false}
+use Rattle.std.proofs.Common.{◌≡◌, ℕ, zero, suc, nat_eq, ◌+◌, ◌-◌, ◌<◌, ◌≤◌, Bool, true, false, List, [], length, refl, sym, ap, ◌∙◌, arith, inl, inr, true≢false}
 use Rattle.std.specs.Prelude.{◌&&◌, ◌||◌, not, Option, None, Some, if◌then◌else◌}
 use Rattle.std.specs.List.{IsDistinct}
 use Rattle.std.specs.FinSet as set
 use Rattle.std.proofs.Math.Bool.{or-true}
-use Rattle.std.proofs.lemmas.List.{take_more}
 use Rattle.std.proofs.lemmas.Bool.{cases_Bool, cases_lt}
 use Rattle.bisim_spec.specs.declared.sides.Side.{Side}
 use Rattle.bisim_spec.specs.declared.sides.Side.TheVariants.{Parents, Children}
@@ -81,7 +80,7 @@ fresh_few p (Some m) = (let few = one_most (p m) in omega (arith, few))
 
 -- ---- a node that no step names, where none is dropped
 
-unnamed_far : (side : Side) (c : List Step) (n m : ℕ) → is_named c n ≡ false → is_dropped c m ≡ false → concerned_at side c n m ≡ false
+pub unnamed_far : (side : Side) (c : List Step) (n m : ℕ) → is_named c n ≡ false → is_dropped c m ≡ false → concerned_at side c n m ≡ false
 unnamed_far Parents c n m h k = unnamed_child c m n h k
 unnamed_far Children c n m h k = unnamed_parent c n m h k
 

@@ -1,11 +1,13 @@
 -- The steps that are still to be read for the neighbours of a node.
-use Rattle.std.specs.Prelude.{◌≡◌, ◌<◌, ◌≤◌, ℕ, false, List, length, drop}
+use Rattle.std.specs.Prelude.{◌≡◌, ◌<◌, ◌≤◌, ℕ, Bool, false, List, length}
 use Rattle.change_spec.specs.Steps.{Step}
-use Rattle.change_spec.specs.Named.{is_named, is_dropped}
+use Rattle.change_spec.specs.Named.{is_dropped}
 
--- the steps from one place on are still to be read, and none behind another names the node, which stays where there is one
-pub record AreLeft (c : List Step) (n from past : ℕ) : Type 0 where
-  pub ordered : from ≤ past
-  pub within : past ≤ length c
-  pub over : is_named (drop past c) n ≡ false
-  pub stays : from < past → is_dropped c n ≡ false
+-- the steps from a place on are still to be read, and the node stays where there is one
+pub record AreLeft (c : List Step) (n from : ℕ) : Type 0 where
+  pub within : from ≤ length c
+  pub stays : from < length c → is_dropped c n ≡ false
+
+-- where no step is said to drop a node, none does
+abbrev pub TellsDrops : List Step → Bool → Type 0
+TellsDrops c drops = drops ≡ false → (n : ℕ) → is_dropped c n ≡ false

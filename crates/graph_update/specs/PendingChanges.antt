@@ -1,15 +1,15 @@
 -- A graph, and a change that is to be made in it.
-use Rattle.std.specs.Prelude.{◌≡◌, ℕ, ◌+◌, ◌<◌, ◌≤◌, ◌^◌, ◌&&◌, not, nat_lt, Bool, true, false, List, length, take, refl}
+use Rattle.std.specs.Prelude.{◌≡◌, ℕ, ◌+◌, ◌<◌, ◌≤◌, ◌^◌, ◌&&◌, not, nat_lt, Bool, true, List, length, take, refl}
 use Rattle.std.specs.Coded.{Coded, code_by, coded×}
 use Rattle.bisim_spec.specs.declared.sides.Side.{Side}
 use Rattle.bisim_spec.specs.declared.sides.Side.TheVariants.{Parents, Children}
 use Rattle.graph_spec.specs.Graphs.{Graph, IsGraph, graph_code}
 use Rattle.change_spec.specs.Steps.{Step, after}
 use Rattle.change_spec.specs.Codes.{steps_code}
-use Rattle.change_spec.specs.Named.{is_dropped}
 use Rattle.change_spec.specs.Lost.{lost_onto, lost_from}
 use Rattle.label_graph.specs.LabelTable.{LabelTable, entries}
 use Rattle.graph_steps.specs.NewChanges.{IsNew}
+use Rattle.graph_update.specs.NamedSteps.{TellsDrops}
 
 pub record Pending : Type 0 where
   -- the graph as it is
@@ -50,5 +50,5 @@ pub record IsPending (c : List Step) (g : Graph) (table : LabelTable) (created :
   pub sound : IsGraph g
   pub created_is : created ≡ length (after c g).allocated
   pub few : created ≤ 2 ^ 30
-  pub stays : drops ≡ false → (n : ℕ) → is_dropped c n ≡ false
+  pub stays : TellsDrops c drops
   pub ahead_are : ahead ≡ true → AreAhead c g table

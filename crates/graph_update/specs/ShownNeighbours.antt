@@ -6,14 +6,19 @@ use Rattle.bisim_spec.specs.declared.sides.Side.TheVariants.{Parents, Children}
 use Rattle.graph_spec.specs.Graphs.{Graph, has_edge}
 use Rattle.change_spec.specs.Steps.{Step, node, link, unlink, drop as drop_step, relabel}
 use Rattle.change_spec.specs.Named.{is_dropped}
-use Rattle.change_spec.specs.Shown.{concerned, new_parents, new_children, edge_after}
+use Rattle.change_spec.specs.Shown.{concerns, concerned, new_parents, new_children, edge_after}
 
 -- an edge joins n to m, which is its neighbour on this side
 abbrev pub joins : Side → Graph → ℕ → ℕ → Bool
 joins Parents g n m = has_edge g m n
 joins Children g n m = has_edge g n m
 
--- some step concerns that edge
+-- the step concerns that edge
+abbrev pub concerns_at : Side → Step → ℕ → ℕ → Bool
+concerns_at Parents s n m = concerns m n s
+concerns_at Children s n m = concerns n m s
+
+-- some step does so
 abbrev pub concerned_at : Side → List Step → ℕ → ℕ → Bool
 concerned_at Parents c n m = concerned c m n
 concerned_at Children c n m = concerned c n m

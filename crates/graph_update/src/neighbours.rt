@@ -1,13 +1,11 @@
 // The neighbours of a node in a graph that is shown.
 ghost use Rattle.std.specs.Prelude.{◌≡◌, ◌<◌, ◌≤◌, ◌||◌, ◌&&◌, ◌∷◌, ◌+◌, nat_eq, [], IfSome, IfNone, Some, None, Option, false, length, drop, if◌then◌else◌};
-ghost use Rattle.std.specs.List.{list_any};
-ghost use Rattle.change_spec.specs.Shown.{concerns as concerning, concerned as concerned_by};
+ghost use Rattle.change_spec.specs.Shown.{concerns as concerning};
 ghost use Rattle.change_spec.specs.Named.{is_dropped};
 ghost use Rattle.change_spec.specs.Counts.{tally};
-ghost use Rattle.graph_steps.specs.StepLists.{step_of, steps_of};
-ghost use Rattle.graph_steps.specs.NamedSteps.{AreNaming};
-ghost use Rattle.graph_update.specs.NamedSteps.{AreLeft};
-ghost use Rattle.graph_update.specs.ShownNeighbours.{concerned_at as concerned_on, other_end, linked_at, unless_later, with_first, new_at, kept_at, shown_at, is_fresh, IsFirstKept, IsFirstAdded, AreShown};
+ghost use Rattle.graph_steps.specs.StepLists.{step_of};
+ghost use Rattle.graph_update.specs.NamedSteps.{AreLeft, TellsDrops};
+ghost use Rattle.graph_update.specs.ShownNeighbours.{concerns_at as concerns_on, concerned_at as concerned_on, other_end, linked_at, unless_later, with_first, new_at, kept_at, shown_at, is_fresh, IsFirstKept, IsFirstAdded, AreShown};
 
 use bisim_spec::Side;
 use graph_steps::{Change, Step, edge_before};
@@ -15,12 +13,18 @@ use label_graph::Graph;
 use px_base::NodeId;
 use std::marker::Model;
 
-/// Of the steps from a place on, those from the first to the last that names a node.
-pub(crate) fn naming(change: &Change, from: usize, n: NodeId) -> &[Step]
-    requires { from ≤ length change.now }
-    ensures { AreNaming n (drop from change.now) (steps_of result.now) }
+fn step_count(change: &Change) -> usize
+    ensures { result ≡ length change.now }
 {
-    change.whole().naming(from, n)
+    change.steps().len()
+}
+
+// The step at a place.
+fn step_at(change: &Change, i: usize) -> &Step
+    requires { i < length change.now }
+    ensures { drop i change.now ≡ step_of result.now ∷ drop (i + 1) change.now }
+{
+    change.whole().step(i)
 }
 
 // Whether both are those.
@@ -49,55 +53,108 @@ fn concerns(step: &Step, p: NodeId, n: NodeId) -> bool
     }
 }
 
-// Whether one of the steps does so.
-fn any_concerns(steps: &[Step], p: NodeId, n: NodeId) -> bool
-    ensures { result ≡ list_any (λ s. concerning p n (step_of s)) steps.now }
-{
-    steps.iter().any(|s| concerns(s, p, n))
-}
-
-// The same, said of the steps that they stand for.
-fn concerned(steps: &[Step], p: NodeId, n: NodeId) -> bool
-    ensures { result ≡ concerned_by (steps_of steps.now) p n }
-{
-    any_concerns(steps, p, n)
-}
-
-// Whether a step concerns the edge that joins a node to its neighbour.
-fn concerned_at(steps: &[Step], side: Side, n: NodeId, m: NodeId) -> bool
-    ensures { result ≡ concerned_on side (steps_of steps.now) n m }
+// Whether the step concerns the edge that joins a node to its neighbour.
+fn concerns_at(step: &Step, side: Side, n: NodeId, m: NodeId) -> bool
+    ensures { result ≡ concerns_on side (step_of step.now) n m }
 {
     match side {
-        Side::Parents => concerned(steps, m, n),
-        Side::Children => concerned(steps, n, m),
+        Side::Parents => concerns(step, m, n),
+        Side::Children => concerns(step, n, m),
     }
 }
 
+// Whether the step at a place does so.
+fn is_concerned_by(change: &Change, i: usize, side: Side, n: NodeId, m: NodeId) -> bool
+    requires { i < length change.now }
+    ensures { concerned_on side (drop i change.now) n m ≡ (result || concerned_on side (drop (i + 1) change.now) n m) }
+{
+    concerns_at(step_at(change, i), side, n, m)
+}
+
 // Whether a step from a place on concerns the edge that joins a node which stays to its neighbour. It names the neighbour.
-fn concerned_from(change: &Change, from: usize, side: Side, n: NodeId, m: NodeId) -> bool
+fn concerned_at_neighbour(change: &Change, from: usize, side: Side, n: NodeId, m: NodeId) -> bool
     requires place { from ≤ length change.now }
     requires stays { is_dropped change.now n ≡ false }
     ensures { result ≡ concerned_on side (drop from change.now) n m }
 {
-    concerned_at(naming(change, from, m), side, n, m)
+    let len = step_count(change);
+    let mut i = change.next_naming(from, m);
+    while i < len {
+        if is_concerned_by(change, i, side, n, m) {
+            return true;
+        }
+        i = change.next_naming(i + 1, m);
+    }
+    false
+}
+
+// The same where the neighbour stays too. It names both, so the steps that name the one and those that name the other are
+// gone through side by side, until either end.
+fn concerned_at_either(change: &Change, from: usize, side: Side, n: NodeId, m: NodeId) -> bool
+    requires place { from ≤ length change.now }
+    requires stays { is_dropped change.now n ≡ false }
+    requires both { is_dropped change.now m ≡ false }
+    ensures { result ≡ concerned_on side (drop from change.now) n m }
+{
+    let len = step_count(change);
+    let mut j = change.next_naming(from, m);
+    // Most neighbours are named by no step.
+    if j >= len {
+        return false;
+    }
+    let mut i = change.next_naming(from, n);
+    'steps: while i < len && j < len {
+        if is_concerned_by(change, i, side, n, m) {
+            return true;
+        }
+        if is_concerned_by(change, j, side, n, m) {
+            return true;
+        }
+        i = change.next_naming(i + 1, n);
+        j = change.next_naming(j + 1, m);
+    }
+    false
+}
+
+// The same of a neighbour that a step may drop, where some step may drop a node.
+fn concerned_from(
+    change: &Change,
+    drops: bool,
+    from: usize,
+    side: Side,
+    n: NodeId,
+    m: NodeId,
+) -> bool
+    requires place { from ≤ length change.now }
+    requires stays { is_dropped change.now n ≡ false }
+    requires drops { TellsDrops change.now drops }
+    ensures { result ≡ concerned_on side (drop from change.now) n m }
+{
+    if drops {
+        return concerned_at_neighbour(change, from, side, n, m);
+    }
+    concerned_at_either(change, from, side, n, m)
 }
 
 // The same of all steps.
-fn is_concerned(change: &Change, side: Side, n: NodeId, m: NodeId) -> bool
-    requires { is_dropped change.now n ≡ false }
+fn is_concerned(change: &Change, drops: bool, side: Side, n: NodeId, m: NodeId) -> bool
+    requires stays { is_dropped change.now n ≡ false }
+    requires drops { TellsDrops change.now drops }
     ensures { result ≡ concerned_on side change.now n m }
 {
-    concerned_from(change, 0, side, n, m)
+    concerned_from(change, drops, 0, side, n, m)
 }
 
 // The first of the neighbours that no step concerns, and those behind it.
 fn first_kept<'a>(
     items: &'a [NodeId],
     change: &Change,
+    drops: bool,
     side: Side,
     n: NodeId,
 ) -> Option<(NodeId, &'a [NodeId])>
-    requires { AreShown change.now n items.now }
+    requires shown { AreShown change.now n items.now }
+    requires drops { TellsDrops change.now drops }
     ensures some { IfSome result (λ f. IsFirstKept side change.now n f.0 items.now f.1.now) }
     ensures rest { IfSome result (λ f. AreShown change.now n f.1.now) }
     ensures none { IfNone result (kept_at side change.now n items.now ≡ []) }
@@ -105,7 +162,7 @@ fn first_kept<'a>(
     let mut left = items;
     while let Some((m, rest)) = left.split_first() {
         left = rest;
-        if !is_concerned(change, side, n, *m) {
+        if !is_concerned(change, drops, side, n, *m) {
             return Some((*m, rest));
         }
     }
@@ -139,17 +196,10 @@ fn linked_to(step: &Step, side: Side, n: NodeId) -> Option<NodeId>
     }
 }
 
-// The step at a place.
-fn step_at(change: &Change, i: usize) -> &Step
-    requires { i < length change.now }
-    ensures { drop i change.now ≡ step_of result.now ∷ drop (i + 1) change.now }
-{
-    change.whole().step(i)
-}
-
 // The neighbour, unless a step from a place on concerns its edge.
 fn unless_concerned(
     change: &Change,
+    drops: bool,
     from: usize,
     side: Side,
     n: NodeId,
@@ -157,9 +207,10 @@ fn unless_concerned(
 ) -> Option<NodeId>
     requires place { from ≤ length change.now }
     requires stays { is_dropped change.now n ≡ false }
+    requires drops { TellsDrops change.now drops }
     ensures { result ≡ unless_later side (drop from change.now) n (Some m) }
 {
-    if concerned_from(change, from, side, n, m) {
+    if concerned_from(change, drops, from, side, n, m) {
         None
     } else {
         Some(m)
@@ -167,36 +218,49 @@ fn unless_concerned(
 }
 
 // The neighbour that comes with the step at a place, behind which the next one stands.
-fn linked(change: &Change, i: usize, next: usize, side: Side, n: NodeId) -> Option<NodeId>
+fn linked(
+    change: &Change,
+    drops: bool,
+    i: usize,
+    next: usize,
+    side: Side,
+    n: NodeId,
+) -> Option<NodeId>
     requires place { i < length change.now }
     requires next { next ≡ i + 1 }
     requires stays { is_dropped change.now n ≡ false }
+    requires drops { TellsDrops change.now drops }
     ensures { new_at side (drop i change.now) n ≡ with_first result (new_at side (drop next change.now) n) }
 {
     match linked_to(step_at(change, i), side, n) {
-        Some(m) => unless_concerned(change, next, side, n, m),
+        Some(m) => unless_concerned(change, drops, next, side, n, m),
         None => None,
     }
 }
 
-// The first of the neighbours that come with the steps from a place on, and the place behind its step. No step from the
-// place `past` on names the node.
+// The first of the neighbours that come with the steps from a place on, and the place of the next step behind its own that
+// names the node.
 fn first_added(
     change: &Change,
+    drops: bool,
     side: Side,
     n: NodeId,
     from: usize,
-    past: usize,
 ) -> Option<(NodeId, usize)>
-    requires { AreLeft change.now n from past }
+    requires left { AreLeft change.now n from }
+    requires drops { TellsDrops change.now drops }
     ensures some { IfSome result (λ f. IsFirstAdded side change.now n f.0 from f.1) }
-    ensures left { IfSome result (λ f. AreLeft change.now n f.1 past) }
+    ensures left { IfSome result (λ f. AreLeft change.now n f.1) }
     ensures none { IfNone result (new_at side (drop from change.now) n ≡ []) }
 {
-    for i in from..past {
-        if let Some(m) = linked(change, i, i + 1, side, n) {
-            return Some((m, i + 1));
+    let len = step_count(change);
+    let mut i = from;
+    while i < len {
+        let next = change.next_naming(i + 1, n);
+        if let Some(m) = linked(change, drops, i, i + 1, side, n) {
+            return Some((m, next));
         }
+        i = next;
     }
     None
 }
@@ -227,49 +291,60 @@ fn count_fresh(graph: &Graph, side: Side, n: NodeId, m: Option<NodeId>) -> usize
     }
 }
 
-/// How many of the neighbours that come with the steps a node hasn't yet. It takes O(min(c, p)) for each link at the node,
-/// where its one end has c children and the other p parents.
-pub(crate) fn fresh_count(graph: &Graph, change: &Change, side: Side, n: NodeId) -> usize
-    requires { is_dropped change.now n ≡ false }
+/// How many of the neighbours that come with the steps a node hasn't yet. The steps that name the node are gone through,
+/// and for each link at it those behind that name one of both ends, as `Neighbours` says; it takes O(min(c, p)) more for
+/// each link, where its one end has c children and the other p parents.
+pub(crate) fn fresh_count(
+    graph: &Graph,
+    change: &Change,
+    drops: bool,
+    side: Side,
+    n: NodeId,
+) -> usize
+    requires stays { is_dropped change.now n ≡ false }
+    requires drops { TellsDrops change.now drops }
     ensures { result ≡ tally (is_fresh side graph.now.graph n) (new_at side change.now n) }
 {
-    let span = change.span(n);
+    let len = step_count(change);
     let mut count = 0;
-    for i in span.first..span.past {
-        count += count_fresh(graph, side, n, linked(change, i, i + 1, side, n));
+    let mut i = change.next_naming(0, n);
+    while i < len {
+        count += count_fresh(graph, side, n, linked(change, drops, i, i + 1, side, n));
+        i = change.next_naming(i + 1, n);
     }
     count
 }
 
 /// The neighbours of a node, each once, in no stated order; seen as the list of those that are left. They are read from
 /// the graph's own lists, and then from the steps of the change. No memory. The next one is O(1) where the change neither
-/// names the node nor drops another. Else it takes a look-up for each neighbour of the graph that is passed over and for
-/// each link at the node, and goes through the steps from the first to the last that names the neighbour; the links are
-/// found among the steps from the first to the last that names the node.
+/// names the node nor drops another. Else each step that names the node is gone through once, to find the links, and for
+/// each neighbour of the graph and each link it takes a look-up, and goes through the steps that name the neighbour, or
+/// those that name the node where these are fewer and no step drops a node.
 #[derive(Drop)]
 pub struct Neighbours<'a> {
     // As they are.
     first: &'a [NodeId],
     // Those that no step concerns.
     second: &'a [NodeId],
-    // Those that the steps add from one place on, and before another.
+    // Those that the steps add from a place on, that of the next step which names the node.
     from: usize,
-    past: usize,
     change: &'a Change,
+    // Whether a step may drop a node.
+    drops: bool,
     side: Side,
     node: NodeId,
 }
 
 impl<'a> Model for Neighbours<'a> {
     ghost use Rattle.std.specs.Prelude.{List, ℕ, ◌++◌, drop};
-    ghost use Rattle.graph_update.specs.NamedSteps.{AreLeft};
+    ghost use Rattle.graph_update.specs.NamedSteps.{AreLeft, TellsDrops};
     ghost use Rattle.graph_update.specs.ShownNeighbours.{kept_at, new_at, AreShown};
 
     ghost Value = { List ℕ };
 
     ghost view = { λ n. n.first.now ++ (kept_at n.side n.change.now n.node n.second.now ++ new_at n.side (drop n.from n.change.now) n.node) };
 
-    ghost invariant = { λ n. AreShown n.change.now n.node n.second.now × AreLeft n.change.now n.node n.from n.past };
+    ghost invariant = { λ n. AreShown n.change.now n.node n.second.now × AreLeft n.change.now n.node n.from × TellsDrops n.change.now n.drops };
 }
 
 impl<'a> Neighbours<'a> {
@@ -277,13 +352,12 @@ impl<'a> Neighbours<'a> {
     pub(crate) fn of(nodes: &'a [NodeId], change: &'a Change) -> Neighbours<'a>
         ensures { result ≡ nodes.now }
     {
-        let end = change.steps().len();
         Neighbours {
             first: nodes,
             second: &[],
-            from: end,
-            past: end,
+            from: step_count(change),
             change,
+            drops: true,
             side: Side::Parents,
             node: 0,
         }
@@ -293,19 +367,20 @@ impl<'a> Neighbours<'a> {
     pub(crate) fn shown(
         nodes: &'a [NodeId],
         change: &'a Change,
+        drops: bool,
         side: Side,
         node: NodeId,
     ) -> Neighbours<'a>
-        requires { is_dropped change.now node ≡ false }
+        requires stays { is_dropped change.now node ≡ false }
+        requires drops { TellsDrops change.now drops }
         ensures { result ≡ shown_at side change.now node nodes.now }
     {
-        let span = change.span(node);
         Neighbours {
             first: &[],
             second: nodes,
-            from: span.first,
-            past: span.past,
+            from: change.next_naming(0, node),
             change,
+            drops,
             side,
             node,
         }
@@ -326,17 +401,23 @@ impl<'a> Iterator for Neighbours<'a> {
             self.first = rest;
             return Some(*node);
         }
-        if let Some((node, rest)) = first_kept(self.second, self.change, self.side, self.node) {
+        if let Some((node, rest)) = first_kept(
+            self.second,
+            self.change,
+            self.drops,
+            self.side,
+            self.node,
+        ) {
             self.second = rest;
             return Some(node);
         }
         self.second = &[];
         if let Some((node, next)) = first_added(
             self.change,
+            self.drops,
             self.side,
             self.node,
             self.from,
-            self.past,
         ) {
             self.from = next;
             return Some(node);

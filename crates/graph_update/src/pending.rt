@@ -76,8 +76,8 @@ impl<'a> After<'a> {
         }
     }
 
-    /// Whether the number is that of a live node. Expected O(1); where steps take nodes away, the steps from the first to
-    /// the last that names the node are gone through; no memory.
+    /// Whether the number is that of a live node. Expected O(1); where steps take nodes away, the steps that name the node
+    /// are gone through; no memory.
     pub fn is_live(&self, n: NodeId) -> bool
         ensures { result ≡ is_live (graph_after self.now) n }
     {
@@ -86,9 +86,9 @@ impl<'a> After<'a> {
     }
 
     /// The number of a live node's label. Labels that are not seen yet have the next numbers, in the order of the steps
-    /// that bring them. Expected O(1), and the steps from the first to the last that names the node are gone through; where
-    /// a step gives it a label of b bytes, expected O(b) more. Where that isn't seen yet, and the graph isn't staged for the
-    /// change either, it takes s look-ups of labels and at most s^2 / 2 comparisons of them for s steps; no memory.
+    /// that bring them. Expected O(1), and the steps that name the node are gone through; where a step gives it a label of b
+    /// bytes, expected O(b) more. Where that isn't seen yet, and the graph isn't staged for the change either, it takes s
+    /// look-ups of labels and at most s^2 / 2 comparisons of them for s steps; no memory.
     pub fn label(&self, n: NodeId) -> u32
         requires live { IsTrue (is_live (graph_after self.now) n) }
         ensures text { slice_get (graph_after self.now).seen result ≡ label_of (graph_after self.now) n }
@@ -148,8 +148,8 @@ impl<'a> After<'a> {
     }
 
     /// How many edges there will be: at most 2^30. Expected O(s) for s steps, and for each of them what it takes to look up
-    /// an edge of the graph, and the steps before it that name its nodes, from the first to the last; where it takes a node
-    /// away, O(s) more, and more for each that names this node; no memory.
+    /// an edge of the graph, and the steps before it that name its nodes; where it takes a node away, O(s) more, and more
+    /// for each that names this node; no memory.
     pub fn edge_count(&self) -> u32
         ensures count { result ≡ edge_count (graph_after self.now) }
         ensures few { result ≤ 2 ^ 30 }
@@ -159,8 +159,8 @@ impl<'a> After<'a> {
 
     /// The nodes from which an edge leads to this one, each once, in no stated order; none where the number isn't that
     /// of a live node. It is one step, one for each of them, and one for each edge to the node that the change takes
-    /// away. Expected O(1). Where a step names the node, those from the first to the last that does are gone through, and
-    /// for each of its parents in the graph, and each that a step links, those that may name that one; no memory.
+    /// away. Expected O(1). Where steps name the node, these are gone through, and for each of its parents in the graph, and
+    /// each that a step links, what `Neighbours` says; no memory.
     pub fn parents<L: Ledger>(&self, n: NodeId, steps: &mut Steps<L>) -> Neighbours<'_>
         ensures parents { Lists (λ u. has_edge (graph_after self.now) u n) result }
         ensures cost { steps.new ≡ steps.old + 1 + length result + lost_onto self.now.before (graph_after self.now) n }
@@ -170,8 +170,8 @@ impl<'a> After<'a> {
 
     /// The nodes to which an edge leads from this one, each once, in no stated order; none where the number isn't that
     /// of a live node. It is one step, one for each of them, and one for each edge from the node that the change takes
-    /// away. Expected O(1). Where a step names the node, those from the first to the last that does are gone through, and
-    /// for each of its children in the graph, and each that a step links, those that may name that one; no memory.
+    /// away. Expected O(1). Where steps name the node, these are gone through, and for each of its children in the graph, and
+    /// each that a step links, what `Neighbours` says; no memory.
     pub fn children<L: Ledger>(&self, n: NodeId, steps: &mut Steps<L>) -> Neighbours<'_>
         ensures children { Lists (has_edge (graph_after self.now) n) result }
         ensures cost { steps.new ≡ steps.old + 1 + length result + lost_from self.now.before (graph_after self.now) n }
@@ -180,8 +180,8 @@ impl<'a> After<'a> {
     }
 
     /// Whether an edge will lead from the first node to the second, where one does so already or doesn't. Expected O(1);
-    /// the steps from the first to the last that names an end are gone through, for the end where these are fewer, and
-    /// where steps take nodes away for both; no memory.
+    /// the steps that name an end are gone through, for the end where these are fewer, and where steps take nodes away for
+    /// both; no memory.
     pub fn edge_after(&self, u: NodeId, v: NodeId, present: bool) -> bool
         requires { present ≡ has_edge self.now.before u v }
         ensures { result ≡ has_edge (graph_after self.now) u v }
@@ -217,8 +217,8 @@ impl<'a> After<'a> {
         if self.is_dropped(n) {
             return Neighbours::of(&[], self.change);
         }
-        steps.tick_by(fresh_count(self.graph, self.change, side, n));
-        Neighbours::shown(items, self.change, side, n)
+        steps.tick_by(fresh_count(self.graph, self.change, self.drops, side, n));
+        Neighbours::shown(items, self.change, self.drops, side, n)
     }
 
     // Whether a step adds the node.

@@ -66,9 +66,9 @@ impl Model for Staged {
 /// Takes all the memory that a change needs, which `judge` accepts as new within some limits. The graph stays as it is
 /// seen. What was reserved before is reserved no more, and if memory runs out nothing is reserved. Expected O(s + b),
 /// amortized, for s steps with labels of b bytes together, what it takes to look up an edge of the graph for each link,
-/// and the steps before a link or a relabel that name its nodes, from the first to the last; it takes the memory that
-/// `Graph` takes for nodes, edges and labels, that of a copy of each label that a node gets instead of its own, and where
-/// there are more steps than one that of a list of them.
+/// and the steps before a link or a relabel that name its nodes; it takes the memory that `Graph` takes for nodes, edges
+/// and labels, that of a copy of each label that a node gets instead of its own, and where there are more steps than one
+/// that of a list of them.
 #[tactic(auto, using(crate::proofs::PlannedSteps::new_can))]
 pub fn stage(alloc: Global, graph: &mut Graph, change: &Change) -> Result<Staged, Memory>
     requires new { IsNew change.now graph.old.graph }

@@ -1,24 +1,28 @@
-use Rattle.std.proofs.Common.{◌≤◌, ◌∙◌, ap, sym, subst, length, drop}
+use Rattle.std.proofs.Common.{◌+◌, drop}
 use Rattle.std.specs.List.{list_any}
-use Rattle.graph_steps.specs.StepLists.{steps_of}
 use Rattle.graph_effects.specs.StepEffects.{names_pair}
-use Rattle.graph_effects.proofs.NamedPairs.{named_of_from, named_of_onto}
+use Rattle.graph_update.proofs.NamedParts.{passed_there}
+use Rattle.graph_effects.proofs.NamedPairs.{begin_next, end_next}
 use Rattle.graph_effects.proofs.edges.is_named_from.Goals as goal
 
-pub naming-begin-requires : goal.naming-begin-requires
-naming-begin-requires c = subst (λ k. c.args.from ≤ length k) (sym c.whole-whole.ensures) c.requires
+pub steps-init : goal.steps-init
+steps-init c = record {
+  begin = begin_next c.args.change.now c.args.u c.args.v c.args.from c.next_naming-i.result c.next_naming-i.ensures;
+  end = end_next c.args.change.now c.args.u c.args.v c.args.from c.next_naming-j.result c.next_naming-j.ensures;
+}
 
-pub naming-end-requires : goal.naming-end-requires
-naming-end-requires c = subst (λ k. c.args.from ≤ length k) (sym c.whole-whole.ensures) c.requires
-
-pub returns-then-begin-end : goal.returns-then-begin-end
-returns-then-begin-end c =
-    c.is_named.ensures
-    ∙ named_of_from (drop c.args.from c.whole-whole.result) (steps_of c.naming-begin.result.now) c.args.u c.args.v c.naming-begin.ensures
-    ∙ ap (λ k. list_any (names_pair c.args.u c.args.v) (drop c.args.from k)) c.whole-whole.ensures
-
-pub returns : goal.returns
-returns c =
-    c.is_named-2.ensures
-    ∙ named_of_onto (drop c.args.from c.whole-whole.result) (steps_of c.naming-end.result.now) c.args.u c.args.v c.naming-end.ensures
-    ∙ ap (λ k. list_any (names_pair c.args.u c.args.v) (drop c.args.from k)) c.whole-whole.ensures
+pub steps-preserved : goal.steps-preserved
+steps-preserved c =
+    let whole = c.args.change.now in
+    let i = c.steps.i in
+    let j = c.steps.j in
+    let next_i = c.next_naming-i-in-steps.result in
+    let next_j = c.next_naming-j-in-steps.result in
+    record {
+      begin = passed_there (list_any (names_pair c.args.u c.args.v) (drop i whole)) c.is_named_by.result (list_any (names_pair c.args.u c.args.v) (drop (i + 1) whole))
+          (list_any (names_pair c.args.u c.args.v) (drop next_i whole)) (list_any (names_pair c.args.u c.args.v) (drop c.args.from whole)) c.is_named_by.ensures c.if-is_named_by.false
+          (begin_next whole c.args.u c.args.v (i + 1) next_i c.next_naming-i-in-steps.ensures) c.steps.invariant.begin;
+      end = passed_there (list_any (names_pair c.args.u c.args.v) (drop j whole)) c.is_named_by-in-steps.result (list_any (names_pair c.args.u c.args.v) (drop (j + 1) whole))
+          (list_any (names_pair c.args.u c.args.v) (drop next_j whole)) (list_any (names_pair c.args.u c.args.v) (drop c.args.from whole)) c.is_named_by-in-steps.ensures c.if-is_named_by-2.false
+          (end_next whole c.args.u c.args.v (j + 1) next_j c.next_naming-j-in-steps.ensures) c.steps.invariant.end;
+    }
