@@ -59,7 +59,9 @@ fn lists(rt: &impl Abort, held: &mut Held) {
     let mut text = [0u8; 8];
     assert!(rt; held.copy_text(0, &mut text) == 8 && text == *b"blocks 2");
     assert!(rt; held.call(15, 0, 0, b"") == 0);
-    assert!(rt; held.call(17, 0, 0, b"") == 0 && held.copy_text(0, &mut text) == 8 && text == *b"pathinde");
+    assert!(rt;
+        held.call(17, 0, 0, b"") == 0 && held.copy_text(0, &mut text) == 8 && text == *b"pathinde"
+    );
     assert!(rt; held.call(16, 33, 0, b"") == 0);
     assert!(rt; held.call(11, 33, 0, KNOWN) == 5);
 }

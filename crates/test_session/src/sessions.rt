@@ -109,7 +109,8 @@ fn answers_are_explained(rt: HostRuntime) -> Result<(), Fail> {
 }
 
 /// The triples with the groups by label, as an index file.
-const FILE: &[u8] = b"pathindex 1\ngiven 5 k 0\nlive iri\nlive <x:knows>\nlive iri\nlive <x:knows>\nlive iri\n\
+const FILE: &[u8] =
+    b"pathindex 1\ngiven 5 k 0\nlive iri\nlive <x:knows>\nlive iri\nlive <x:knows>\nlive iri\n\
 edges 4\n0 1\n1 2\n2 3\n3 4\nviews 1\nview a0\n0\n1\n0\n1\n0\n";
 
 const BY_LABEL: Indexes = Indexes {
