@@ -7,7 +7,7 @@ use mathlib.Core.Bool.{beq}
 use Rattle.std.proofs.Math.Seq.{drop-drop, drop-cons}
 use Rattle.std.proofs.lemmas.List.{take-append-drop, take_all, drop-take, length-take-le, length-map}
 use Rattle.std.proofs.lemmas.List.Folds.{list_any-append}
-use Rattle.std.proofs.lemmas.Bool.{cases_Bool, cases_lt, or_parts, and_parts, not-true}
+use Rattle.std.proofs.lemmas.Bool.{cases_Bool, or_parts, and_parts, not-true}
 use Rattle.graph_spec.specs.Graphs.{Graph, is_live}
 use Rattle.change_spec.specs.Steps.{Step, after}
 use Rattle.change_spec.specs.Places.{CanMakeAll}

@@ -1,9 +1,9 @@
 -- Links of steps, as they are read, and as a change gets one step more.
 use Rattle.std.proofs.Common.{◌≡◌, ℕ, zero, suc, ◌+◌, ◌-◌, ◌<◌, ◌≤◌, Bool, true, false, List, [], ◌∷◌, ◌++◌, length, take, drop, get_or, set, refl, sym, ap, ◌∙◌, subst, arith, inl, inr, nat_eq, true≢false}
-use Rattle.std.specs.Prelude.{◌||◌, ◌&&◌, ◌⊎◌, ◌≢◌, ◌^◌, Option, Some, None, is_some, unwrap_or, min, slice_get, if◌then◌else◌, not}
+use Rattle.std.specs.Prelude.{◌||◌, ◌&&◌, ◌⊎◌, ◌≢◌, Option, Some, None, is_some, unwrap_or, min, slice_get, if◌then◌else◌, not}
 use Rattle.std.specs.Map.{lookup}
 use Rattle.std.proofs.lemmas.List.{length-append, length-map}
-use Rattle.std.proofs.lemmas.Bool.{cases_Bool, cases_lt, not-true}
+use Rattle.std.proofs.lemmas.Bool.{cases_Bool, cases_lt}
 use Rattle.std.proofs.lemmas.Bool.Decides.{eqb_tells}
 use Rattle.change_spec.specs.Steps.{Step, node, link, unlink, drop as drop_step, relabel}
 use Rattle.change_spec.specs.Named.{names, is_named}
