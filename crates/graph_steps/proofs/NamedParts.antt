@@ -31,9 +31,6 @@ mapped_take zero ss = refl
 mapped_take (suc k) [] = refl
 mapped_take (suc k) (s ∷ ss) = ap (λ r. step_of s ∷ r) (mapped_take k ss)
 
-pub mapped_part : (from more : ℕ) (ss : List Asked) → steps_of (take more (drop from ss)) ≡ take more (drop from (steps_of ss))
-mapped_part from more ss = mapped_take more (drop from ss) ∙ ap (take more) (mapped_drop from ss)
-
 -- how many the code has
 pub counted : (ss : List Asked) (c : List Step) → steps_of ss ≡ c → length ss ≡ length c
 counted ss c e = sym (length-map ss step_of) ∙ ap length e
@@ -82,7 +79,7 @@ got_taken [] (suc k) i s e = e
 got_taken (x ∷ xs) (suc k) zero s e = e
 got_taken (x ∷ xs) (suc k) (suc i) s e = got_taken xs k i s e
 
-got_within : (c : List Step) (i : ℕ) (s : Step) → slice_get c i ≡ Some s → i < length c
+pub got_within : (c : List Step) (i : ℕ) (s : Step) → slice_get c i ≡ Some s → i < length c
 got_within [] zero s e = cc
 got_within [] (suc i) s e = cc
 got_within (x ∷ xs) zero s e = omega arith
