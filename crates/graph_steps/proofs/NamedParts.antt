@@ -7,7 +7,7 @@ use mathlib.Core.Bool.{beq}
 use Rattle.std.proofs.Math.Seq.{drop-drop, drop-cons}
 use Rattle.std.proofs.lemmas.List.{take-append-drop, take_all, drop-take, length-take-le, length-map}
 use Rattle.std.proofs.lemmas.List.Folds.{list_any-append}
-use Rattle.std.proofs.lemmas.Bool.{cases_Bool, cases_lt, or_parts, and_parts, not-true}
+use Rattle.std.proofs.lemmas.Bool.{cases_Bool, or_parts, and_parts, not-true}
 use Rattle.graph_spec.specs.Graphs.{Graph, is_live}
 use Rattle.change_spec.specs.Steps.{Step, after}
 use Rattle.change_spec.specs.Places.{CanMakeAll}
@@ -30,9 +30,6 @@ pub mapped_take : (k : ℕ) (ss : List Asked) → steps_of (take k ss) ≡ take 
 mapped_take zero ss = refl
 mapped_take (suc k) [] = refl
 mapped_take (suc k) (s ∷ ss) = ap (λ r. step_of s ∷ r) (mapped_take k ss)
-
-pub mapped_part : (from more : ℕ) (ss : List Asked) → steps_of (take more (drop from ss)) ≡ take more (drop from (steps_of ss))
-mapped_part from more ss = mapped_take more (drop from ss) ∙ ap (take more) (mapped_drop from ss)
 
 -- how many the code has
 pub counted : (ss : List Asked) (c : List Step) → steps_of ss ≡ c → length ss ≡ length c
@@ -82,7 +79,7 @@ got_taken [] (suc k) i s e = e
 got_taken (x ∷ xs) (suc k) zero s e = e
 got_taken (x ∷ xs) (suc k) (suc i) s e = got_taken xs k i s e
 
-got_within : (c : List Step) (i : ℕ) (s : Step) → slice_get c i ≡ Some s → i < length c
+pub got_within : (c : List Step) (i : ℕ) (s : Step) → slice_get c i ≡ Some s → i < length c
 got_within [] zero s e = cc
 got_within [] (suc i) s e = cc
 got_within (x ∷ xs) zero s e = omega arith

@@ -1,9 +1,9 @@
 -- Links of steps, as they are read, and as a change gets one step more.
 use Rattle.std.proofs.Common.{◌≡◌, ℕ, zero, suc, ◌+◌, ◌-◌, ◌<◌, ◌≤◌, Bool, true, false, List, [], ◌∷◌, ◌++◌, length, take, drop, get_or, set, refl, sym, ap, ◌∙◌, subst, arith, inl, inr, nat_eq, true≢false}
-use Rattle.std.specs.Prelude.{◌||◌, ◌&&◌, ◌⊎◌, ◌≢◌, ◌^◌, Option, Some, None, is_some, unwrap_or, min, slice_get, if◌then◌else◌, not}
+use Rattle.std.specs.Prelude.{◌||◌, ◌&&◌, ◌⊎◌, ◌≢◌, Option, Some, None, is_some, unwrap_or, min, slice_get, if◌then◌else◌, not}
 use Rattle.std.specs.Map.{lookup}
 use Rattle.std.proofs.lemmas.List.{length-append, length-map}
-use Rattle.std.proofs.lemmas.Bool.{cases_Bool, cases_lt, not-true}
+use Rattle.std.proofs.lemmas.Bool.{cases_Bool, cases_lt}
 use Rattle.std.proofs.lemmas.Bool.Decides.{eqb_tells}
 use Rattle.change_spec.specs.Steps.{Step, node, link, unlink, drop as drop_step, relabel}
 use Rattle.change_spec.specs.Named.{names, is_named}
@@ -12,6 +12,7 @@ use Rattle.graph_steps.specs.declared.chains.Links.{Links}
 use Rattle.graph_steps.specs.declared.chains.Ends.{Ends}
 use Rattle.graph_steps.specs.StepLists.{step_of, steps_of}
 use Rattle.graph_steps.specs.NamedSteps.{IsNextNamed}
+use Rattle.graph_steps.proofs.NamedParts.{got_within}
 use Rattle.graph_steps.specs.StepLinks.{names_at, nowhere, IsAhead, IsLater, IsLast, is_first, next_of, with_next, link_at, with_link, AreLinks, no_ends, ends_at, first_at, last_at, ends_with, AreNoted, AreEnds, Notes, LeadsTo}
 
 -- ---- the step at a place
@@ -380,19 +381,13 @@ got [] (suc i) n s e = cc
 got (x ∷ xs) zero n s e = (let same : x ≡ s = cc in ap (names n) same)
 got (x ∷ xs) (suc i) n s e = got xs i n s e
 
-within_got : (c : List Step) (i : ℕ) (s : Step) → slice_get c i ≡ Some s → i < length c
-within_got [] zero s e = cc
-within_got [] (suc i) s e = cc
-within_got (x ∷ xs) zero s e = omega arith
-within_got (x ∷ xs) (suc i) s e = (let r = within_got xs i s e in omega (arith, r))
-
 pub next_named : (c : List Step) (n from place : ℕ) → from ≤ place → place ≤ length c → ((k : ℕ) → from ≤ k → k < place → names_at c k n ≡ false) → (place < length c → names_at c place n ≡ true)
     → IsNextNamed n c from place
 next_named c n from place low high free here = record {
   ordered = low;
   within = high;
   between = none_taken (drop from c) (place - from) n (λ k b. dropped_at c from k n ∙ free (from + k) (omega arith) (omega (arith, b)));
-  named = λ s e. sym (got c place n s e) ∙ here (within_got c place s e);
+  named = λ s e. sym (got c place n s e) ∙ here (got_within c place s e);
 }
 
 pub next_cut : (c : List Step) (n from p place : ℕ) → length c ≤ nowhere → from ≤ length c → place ≡ min p (length c) → IsLater n c from p → IsNextNamed n c from place

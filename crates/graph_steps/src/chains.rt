@@ -1,11 +1,11 @@
 // Links from each step to the next ones that name its nodes, and for each node the first step that names it and the last.
-ghost use Rattle.std.specs.Prelude.{◌≡◌, ◌<◌, ◌≤◌, ◌+◌, ◌||◌, ◌++◌, ◌∷◌, [], true, ℕ, Some, None, IfSome, IfNone, OnOk, OnErr, length, min, nat_eq, if◌then◌else◌};
+ghost use Rattle.std.specs.Prelude.{◌≡◌, ◌<◌, ◌≤◌, ◌+◌, ◌||◌, ◌++◌, ◌∷◌, [], OnOk, OnErr, length, nat_eq};
 ghost use Rattle.indexmap.specs.IndexMap.{spare};
 ghost use Rattle.smallvec.specs.SmallVec.{HasRoomFor};
 ghost use Rattle.change_spec.specs.Named.{names};
 ghost use Rattle.graph_steps.specs.StepLists.{step_of, steps_of};
 ghost use Rattle.graph_steps.specs.NamedSteps.{IsNextNamed};
-ghost use Rattle.graph_steps.specs.StepLinks.{names_at, nowhere, is_first, next_of, with_next, link_at, with_link, ends_at, first_at, last_at, ends_with, AreLinks, AreEnds, AreNoted, IsLater, IsAhead, Notes, LeadsTo};
+ghost use Rattle.graph_steps.specs.StepLinks.{nowhere, is_first, next_of, with_next, link_at, with_link, ends_at, ends_with, AreLinks, AreEnds, AreNoted, IsLater, IsAhead, Notes, LeadsTo};
 
 use crate::changes::{Step, names};
 use indexmap::IndexMap;

@@ -1,7 +1,6 @@
-use Rattle.std.proofs.Common.{◌≡◌, ◌<◌, ◌≤◌, ◌+◌, ◌∙◌, true, sym, subst, arith, length, inl, inr}
-use Rattle.std.proofs.lemmas.List.{length-map}
-use Rattle.graph_steps.specs.StepLists.{step_of, steps_of}
-use Rattle.graph_steps.specs.StepLinks.{IsAhead, IsLater, names_at}
+use Rattle.std.proofs.Common.{◌+◌, sym, subst, arith}
+use Rattle.graph_steps.specs.StepLists.{steps_of}
+use Rattle.graph_steps.specs.StepLinks.{IsAhead}
 use Rattle.graph_steps.proofs.StepLinks.{ahead_there, no_further}
 use Rattle.graph_steps.proofs.chains.along.Goals as goal
 

@@ -1,9 +1,8 @@
-use Rattle.std.proofs.Common.{◌<◌, ◌≤◌, ◌∙◌, ap, arith, length, subst, sym}
+use Rattle.std.proofs.Common.{◌∙◌, ap, arith, length, subst, sym}
 use Rattle.std.proofs.lemmas.List.{length-map}
 use Rattle.graph_steps.specs.StepLists.{step_of, steps_of}
-use Rattle.graph_steps.specs.StepLinks.{LeadsTo, IsLast, last_at, nowhere}
+use Rattle.graph_steps.specs.StepLinks.{LeadsTo, IsLast}
 use Rattle.graph_steps.specs.declared.chains.Ends.{Ends}
-use Rattle.graph_steps.proofs.NamedParts.{counted}
 use Rattle.graph_steps.proofs.StepLinks.{leads_there, leads_nowhere, last_there, last_none, count_kept}
 use Rattle.graph_steps.proofs.chains.lead_node.Goals as goal
 

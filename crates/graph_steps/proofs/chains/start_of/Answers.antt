@@ -1,6 +1,5 @@
-use Rattle.std.proofs.Common.{◌≡◌, ◌+◌, ◌-◌, ◌∙◌, ap, sym, subst, arith, length}
-use Rattle.std.proofs.lemmas.List.{length-map}
-use Rattle.graph_steps.specs.StepLists.{step_of, steps_of}
+use Rattle.std.proofs.Common.{◌≡◌, ◌+◌, ◌-◌, ◌∙◌, sym, subst, arith}
+use Rattle.graph_steps.specs.StepLists.{steps_of}
 use Rattle.graph_steps.specs.StepLinks.{IsAhead, link_at}
 use Rattle.graph_steps.proofs.StepLinks.{name_there}
 use Rattle.graph_steps.proofs.chains.start_of.Goals as goal

@@ -1,4 +1,4 @@
-use Rattle.std.proofs.Common.{◌∙◌, ap, sym, false}
+use Rattle.std.proofs.Common.{◌∙◌, ap, sym}
 use Rattle.std.specs.Prelude.{◌&&◌, not}
 use Rattle.graph_spec.specs.Graphs.{has_edge}
 use Rattle.change_spec.specs.Steps.{after}

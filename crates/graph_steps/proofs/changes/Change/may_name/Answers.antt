@@ -1,4 +1,4 @@
-use Rattle.std.proofs.Common.{◌≡◌, ◌∙◌, ap, sym, subst, arith, length, true}
+use Rattle.std.proofs.Common.{◌≡◌, ◌∙◌, sym, subst, arith, true}
 use Rattle.std.proofs.lemmas.List.{length-map}
 use Rattle.change_spec.specs.Named.{is_named}
 use Rattle.graph_steps.specs.StepLists.{step_of, steps_of}
