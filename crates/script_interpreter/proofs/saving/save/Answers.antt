@@ -25,19 +25,19 @@ returns-in-Ok-clause-asked g c = asked_twice _ _ _ c.count_kept.ensures.asked c.
 
 pub returns-in-Ok-clause-all : goal.returns-in-Ok-clause-all
 returns-in-Ok-clause-all g c labels =
-    let graph = subst IsGraph c.graph.ensures c.created-_known.ensures.graph in
-    let few = subst (λ (h : Graph). length h.allocated ≤ 2 ^ 30) c.graph.ensures (rw c.created-_known.ensures.count at c.created-_known.ensures.few) in
+    let graph = subst IsGraph c.graph.ensures c.created-known.ensures.graph in
+    let few = subst (λ (h : Graph). length h.allocated ≤ 2 ^ 30) c.graph.ensures (rw c.created-known.ensures.count at c.created-known.ensures.few) in
     on_ok_weaker c.write_file.result (λ w. file_wrote (by_meaning g.B.PathIndex.meaning c.args.engine.now) (by_meaning g.B.PathIndex.meaning c.count_kept.new.engine) _ _ _ _ c.requires.ready graph few labels c.count_kept.ensures.asked c.level-k.ensures c.in-Ok.ensures.count w)
     c.write_file.ensures.all
 
 pub returns-in-Ok-clause-part : goal.returns-in-Ok-clause-part
 returns-in-Ok-clause-part g c labels =
-    let graph = subst IsGraph c.graph.ensures c.created-_known.ensures.graph in
-    let few = subst (λ (h : Graph). length h.allocated ≤ 2 ^ 30) c.graph.ensures (rw c.created-_known.ensures.count at c.created-_known.ensures.few) in
+    let graph = subst IsGraph c.graph.ensures c.created-known.ensures.graph in
+    let few = subst (λ (h : Graph). length h.allocated ≤ 2 ^ 30) c.graph.ensures (rw c.created-known.ensures.count at c.created-known.ensures.few) in
     err_fact c.write_file.result _ _ c.write_file.ensures.part
     (λ w. file_part (by_meaning g.B.PathIndex.meaning c.args.engine.now) (by_meaning g.B.PathIndex.meaning c.count_kept.new.engine) _ _ _ _ c.requires.ready graph few labels c.count_kept.ensures.asked c.level-k.ensures c.in-Ok.ensures.count w)
 
 pub returns-in-Err-clause-part : goal.returns-in-Err-clause-part
 returns-in-Err-clause-part g c labels =
-    no_file_yet (by_meaning g.B.PathIndex.meaning c.args.engine.now) _ c.requires.ready (subst IsGraph c.graph.ensures c.created-_known.ensures.graph)
-    (subst (λ (h : Graph). length h.allocated ≤ 2 ^ 30) c.graph.ensures (rw c.created-_known.ensures.count at c.created-_known.ensures.few)) labels
+    no_file_yet (by_meaning g.B.PathIndex.meaning c.args.engine.now) _ c.requires.ready (subst IsGraph c.graph.ensures c.created-known.ensures.graph)
+    (subst (λ (h : Graph). length h.allocated ≤ 2 ^ 30) c.graph.ensures (rw c.created-known.ensures.count at c.created-known.ensures.few)) labels
