@@ -9,7 +9,7 @@ pub count_kept-requires-clause-level : goal.count_kept-requires-clause-level
 count_kept-requires-clause-level g c = subst (λ k. k ≤ 8) (sym c.level-k.ensures) (level_few (by_meaning g.B.PathIndex.meaning c.args.engine.now) c.requires.sound)
 
 pub graph-requires-2 : goal.graph-requires-2
-graph-requires-2 g c = still_open (by_meaning g.B.PathIndex.meaning c.args.engine.now) (by_meaning g.B.PathIndex.meaning c.count_kept.new.engine) c.requires.open c.count_kept.ensures.asked
+graph-requires-2 g c = record { «open» = still_open (by_meaning g.B.PathIndex.meaning c.args.engine.now) (by_meaning g.B.PathIndex.meaning c.count_kept.new.engine) c.requires.open c.count_kept.ensures.asked }
 
 pub push_views-requires-clause-open : goal.push_views-requires-clause-open
 push_views-requires-clause-open g c = still_open (by_meaning g.B.PathIndex.meaning c.args.engine.now) (by_meaning g.B.PathIndex.meaning c.count_kept.new.engine) c.requires.open c.count_kept.ensures.asked
