@@ -182,21 +182,21 @@ one_minimal boxes o fit h =
 
 minimal_in : (boxes : List Meaning) (o : Option Opened) → IsSome o → AreKeptFor o boxes → is_kept (kept_of boxes (level_in o)) One ≡ true
     → IsStableMinimal (shape_of (graph_in o)) (kept_of boxes (level_in o)).one
-minimal_in boxes None open fit h = absurd (true≢false (sym open))
-minimal_in boxes (Some o) open fit h = one_minimal boxes o fit h
+minimal_in boxes None is_open fit h = absurd (true≢false (sym is_open))
+minimal_in boxes (Some o) is_open fit h = one_minimal boxes o fit h
 
 -- what an engine has can be saved
 can_be_saved : (e : EngineSeen) → IsSome e.opened → IsSound e → IsGraph (graph_in e.opened) → length (graph_in e.opened).allocated ≤ 2 ^ 30 → HasLabels (graph_in e.opened)
     → CanBeSaved (graph_in e.opened) (kept_in e)
-can_be_saved e open sound graph few labels = record {
+can_be_saved e is_open sound graph few labels = record {
   graph = graph;
   numbers = omega (arith, few);
   level = level_few e sound;
   labels = labels;
-  one = minimal_in e.boxes e.opened open sound.fit;
+  one = minimal_in e.boxes e.opened is_open sound.fit;
 }
 
 -- and then the text is an index file
 pub whole_file : (e : EngineSeen) (text : List ℕ) → IsSome e.opened → IsSound e → IsGraph (graph_in e.opened) → length (graph_in e.opened).allocated ≤ 2 ^ 30 → HasLabels (graph_in e.opened)
     → SavesFile (graph_in e.opened) (kept_in e) text → IsIndexFile (graph_in e.opened) (kept_in e) text
-whole_file e text open sound graph few labels saves = saved_whole (graph_in e.opened) (kept_in e) text (can_be_saved e open sound graph few labels) saves
+whole_file e text is_open sound graph few labels saves = saved_whole (graph_in e.opened) (kept_in e) text (can_be_saved e is_open sound graph few labels) saves

@@ -8,8 +8,8 @@ use Rattle.index_saving.proofs.saving.file_text.Goals as goal
 pub count_kept-requires-clause-level : goal.count_kept-requires-clause-level
 count_kept-requires-clause-level g c = subst (λ k. k ≤ 8) (sym c.level-k.ensures) (level_few (by_meaning g.B.PathIndex.meaning c.args.engine.now) c.requires.sound)
 
-pub graph-2-requires-clause-open : goal.graph-2-requires-clause-open
-graph-2-requires-clause-open g c = still_open (by_meaning g.B.PathIndex.meaning c.args.engine.now) (by_meaning g.B.PathIndex.meaning c.count_kept.new.engine) c.requires.open c.count_kept.ensures.asked
+pub graph-requires-2 : goal.graph-requires-2
+graph-requires-2 g c = record { «open» = still_open (by_meaning g.B.PathIndex.meaning c.args.engine.now) (by_meaning g.B.PathIndex.meaning c.count_kept.new.engine) c.requires.open c.count_kept.ensures.asked }
 
 pub push_views-requires-clause-open : goal.push_views-requires-clause-open
 push_views-requires-clause-open g c = still_open (by_meaning g.B.PathIndex.meaning c.args.engine.now) (by_meaning g.B.PathIndex.meaning c.count_kept.new.engine) c.requires.open c.count_kept.ensures.asked
@@ -33,5 +33,5 @@ returns-clause-file g c labels =
     let saves =
     is_file (by_meaning g.B.PathIndex.meaning c.args.engine.now) (by_meaning g.B.PathIndex.meaning c.count_kept.new.engine) _ _ _ _ _ c.count_kept.ensures.asked c.level-k.ensures c.in_ok-count.ensures.count
     (c.into_string-out.ensures ∙ c.in_ok-text.ensures ∙ ap (λ h. head_text h c.level-k.result c.in_ok-count.count) c.graph-2.ensures) c.in_ok-push_views.ensures.text c.from_string.ensures in
-    whole_file (by_meaning g.B.PathIndex.meaning c.args.engine.now) _ c.requires.open c.requires.sound (subst IsGraph c.graph.ensures c.created-_known.ensures.graph)
-    (subst (λ (h : Graph). length h.allocated ≤ 2 ^ 30) c.graph.ensures (rw c.created-_known.ensures.count at c.created-_known.ensures.few)) labels saves
+    whole_file (by_meaning g.B.PathIndex.meaning c.args.engine.now) _ c.requires.open c.requires.sound (subst IsGraph c.graph.ensures c.created-known.ensures.graph)
+    (subst (λ (h : Graph). length h.allocated ≤ 2 ^ 30) c.graph.ensures (rw c.created-known.ensures.count at c.created-known.ensures.few)) labels saves

@@ -22,5 +22,5 @@ returns-in-Ok-clause-part g c =
 
 pub returns-in-Err-clause-part : goal.returns-in-Err-clause-part
 returns-in-Err-clause-part g c =
-    head_part (graph_in c.args.engine.now.opened) (kept_in (by_meaning g.B.PathIndex.meaning c.args.engine.now)) c.args.k c.args.count _ _ (is_shape _ (subst IsGraph c.graph.ensures c.created-_known.ensures.graph))
+    head_part (graph_in c.args.engine.now.opened) (kept_in (by_meaning g.B.PathIndex.meaning c.args.engine.now)) c.args.k c.args.count _ _ (is_shape _ (subst IsGraph c.graph.ensures c.created-known.ensures.graph))
     (subst (λ h. AppendsPrefix (g.K.Sink.written c.args.sink.now) (g.K.Sink.written c.write_head.new.sink) (head_text h c.args.k c.args.count)) c.graph-2.ensures c.in-Err.ensures.part)

@@ -15,7 +15,7 @@ pub returns-in-Ok-clause-part : goal.returns-in-Ok-clause-part
 returns-in-Ok-clause-part g c = err_fact c.write_text.result _ _ c.write_text.ensures.part (λ w. part_index (graph_in c.args.engine.now.opened) (kept_in (by_meaning g.B.PathIndex.meaning c.args.engine.now)) c.args.via _ _ _ c.in-Ok.ensures.text w)
 
 pub returns-in-Err-clause-part : goal.returns-in-Err-clause-part
-returns-in-Err-clause-part g c = no_index_yet (graph_in c.args.engine.now.opened) (kept_in (by_meaning g.B.PathIndex.meaning c.args.engine.now)) c.args.via _ (is_shape _ (subst IsGraph c.graph.ensures c.created-_known.ensures.graph))
+returns-in-Err-clause-part g c = no_index_yet (graph_in c.args.engine.now.opened) (kept_in (by_meaning g.B.PathIndex.meaning c.args.engine.now)) c.args.via _ (is_shape _ (subst IsGraph c.graph.ensures c.created-known.ensures.graph))
 
 pub returns-in-Ok-clause-ready : goal.returns-in-Ok-clause-ready
 returns-in-Ok-clause-ready g c = open_asked _ _ c.requires.ready c.view_lines.ensures.sound c.view_lines.ensures.asked

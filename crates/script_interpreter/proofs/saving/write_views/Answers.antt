@@ -24,7 +24,7 @@ pub loop-via-preserved : goal.loop-via-preserved
 loop-via-preserved g c = record {
   ready = c.write_view.ensures.ready;
   asked = asked_twice _ _ _ c.loop-via.invariant.asked c.write_view.ensures.asked;
-  views = one_more (graph_in c.args.engine.now.opened) (kept_in (by_meaning g.B.PathIndex.meaning c.args.engine.now)) (all_indexes c.args.k) c.loop-via.n c.in-Some.via _ _ _ (sym c.in-Some.ensures) c.loop-via.invariant.views (wrote_same (by_meaning g.B.PathIndex.meaning c.args.engine.now) (by_meaning g.B.PathIndex.meaning c.loop-via.engine) c.in-Some.via _ _ c.loop-via.invariant.asked c.in-Some-Ok.ensures.all);
+  views = one_more (graph_in c.args.engine.now.opened) (kept_in (by_meaning g.B.PathIndex.meaning c.args.engine.now)) (all_indexes c.args.k) c.loop-via.n c.in-Some.via _ _ _ (sym c.in-Some.ensures) c.loop-via.invariant.views (wrote_same (by_meaning g.B.PathIndex.meaning c.args.engine.now) (by_meaning g.B.PathIndex.meaning c.loop-via.engine) c.in-Some.via _ _ c.loop-via.invariant.asked c.in-Ok.ensures.all);
   faults = search rules;
 }
 
@@ -36,5 +36,5 @@ returns-in-Err-clause-asked g c = asked_twice _ _ _ c.loop-via.invariant.asked c
 
 pub returns-in-Err-clause-part : goal.returns-in-Err-clause-part
 returns-in-Err-clause-part g c =
-    one_part (graph_in c.args.engine.now.opened) (kept_in (by_meaning g.B.PathIndex.meaning c.args.engine.now)) (all_indexes c.args.k) c.loop-via.n c.in-Some.via _ _ _ (is_shape _ (subst IsGraph c.graph.ensures c.created-_known.ensures.graph)) (sym c.in-Some.ensures) c.loop-via.invariant.views
+    one_part (graph_in c.args.engine.now.opened) (kept_in (by_meaning g.B.PathIndex.meaning c.args.engine.now)) (all_indexes c.args.k) c.loop-via.n c.in-Some.via _ _ _ (is_shape _ (subst IsGraph c.graph.ensures c.created-known.ensures.graph)) (sym c.in-Some.ensures) c.loop-via.invariant.views
     (part_same (by_meaning g.B.PathIndex.meaning c.args.engine.now) (by_meaning g.B.PathIndex.meaning c.loop-via.engine) c.in-Some.via _ _ c.loop-via.invariant.asked c.in-Err.ensures.part)
