@@ -1,1 +1,6 @@
 pub mod Examples
+pub mod ListLaws
+pub mod ParentLaws
+pub mod FirstLaws
+pub mod LoneLaws
+pub mod PictureLines

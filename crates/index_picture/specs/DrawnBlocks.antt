@@ -1,7 +1,6 @@
 -- Which blocks of an index are drawn, and which pairs of them.
 use Rattle.std.specs.Prelude.{ℕ, zero, suc, ◌*◌, ◌∷◌, ◌++◌, ◌&&◌, ◌||◌, not, Bool, List, [], Option, Some, None, if◌then◌else◌, length, nat_eq, nat_le, nat_lt, unwrap_or, slice_index_or}
 use Rattle.std.specs.List.{flat_map, remove}
-use Rattle.graph_spec.specs.Graphs.{Graph, has_edge}
 use Rattle.graph_spec.specs.Members.{at, has, is_this}
 use Rattle.bisim_spec.specs.Below.{any_below, all_below}
 use Rattle.bisim_spec.specs.IndexGraphs.{support_at}
@@ -85,13 +84,13 @@ firsts_below most p zero = []
 firsts_below most p (suc n) =
     if p n && nat_lt (length (firsts_below most p n)) most then firsts_below most p n ++ n ∷ [] else firsts_below most p n
 
--- a parent of the node is in the block
-abbrev pub has_parent_in : Graph → List (Option ℕ) → ℕ → ℕ → Bool
-has_parent_in g block a v = any_below (length block) (λ u. has_edge g u v && is_this a (at block u))
+-- a parent of the node is in the block, where these are the edges
+abbrev pub has_parent_in : (ℕ → ℕ → Bool) → List (Option ℕ) → ℕ → ℕ → Bool
+has_parent_in edge block a v = any_below (length block) (λ u. edge u v && is_this a (at block u))
 
 -- each node of the block b has a parent in the block a
-abbrev pub covers : Graph → List (Option ℕ) → ℕ → ℕ → Bool
-covers g block a b = all_below (length block) (λ v. not (is_this b (at block v)) || has_parent_in g block a v)
+abbrev pub covers : (ℕ → ℕ → Bool) → List (Option ℕ) → ℕ → ℕ → Bool
+covers edge block a b = all_below (length block) (λ v. not (is_this b (at block v)) || has_parent_in edge block a v)
 
 -- labels, each once, in the order of their first use
 abbrev pub with_label : List ℕ → ℕ → List ℕ

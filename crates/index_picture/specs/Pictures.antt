@@ -1,7 +1,7 @@
 -- The picture of an index as a text for Graphviz. A block is a box, and each line ends with LF.
 use Rattle.std.specs.Prelude.{ℕ, ◌*◌, ◌-◌, ◌%◌, ◌∷◌, ◌++◌, ◌&&◌, Bool, List, [], if◌then◌else◌, length, take, drop, nat_eq, nat_lt, position, unwrap_or, slice_index_or, codes, decimal}
 use Rattle.std.specs.List.{flat_map}
-use Rattle.graph_spec.specs.Graphs.{Graph}
+use Rattle.graph_spec.specs.Graphs.{Graph, has_edge}
 use Rattle.graph_spec.specs.Words.{node_word}
 use Rattle.block_partition.specs.LabelledPartitions.{Partition, is_member}
 use Rattle.quotient.specs.Quotients.{Quotient, pair_count}
@@ -66,10 +66,10 @@ abbrev pub dash_text : Bool → List ℕ
 dash_text covered = if covered then [] else codes " [style=dashed]"
 
 -- the line of a pair of blocks
-abbrev pub pair_line : Graph → Partition → Pair → List ℕ
-pair_line g p r =
+abbrev pub pair_line : (ℕ → ℕ → Bool) → Partition → Pair → List ℕ
+pair_line edge p r =
     codes "  \"" ++ quoted (node_word r.from.first) ++ codes "\" -> \"" ++ quoted (node_word r.onto.first) ++ codes "\""
-    ++ support_text r.support ++ dash_text (covers g p.block_of r.from.number r.onto.number) ++ codes ";\n"
+    ++ support_text r.support ++ dash_text (covers edge p.block_of r.from.number r.onto.number) ++ codes ";\n"
 
 -- how many blocks and pairs aren't drawn; no line if all are
 abbrev pub note_line : ℕ → ℕ → List ℕ
@@ -88,8 +88,8 @@ tail_text = codes "}\n"
 abbrev pub block_lines : List (List ℕ) → List (List ℕ) → ℕ → Partition → List Block → List ℕ
 block_lines texts names most p bs = flat_map (block_line texts names most p (labels_used bs)) bs
 
-abbrev pub pair_lines : Graph → Partition → List Pair → List ℕ
-pair_lines g p rs = flat_map (pair_line g p) rs
+abbrev pub pair_lines : (ℕ → ℕ → Bool) → Partition → List Pair → List ℕ
+pair_lines edge p rs = flat_map (pair_line edge p) rs
 
 -- The picture of an index of a graph, in which at most so many blocks are drawn, and as many nodes of each are named: a line
 -- for each block that is drawn, by rising least nodes, and one for each pair that is.
@@ -97,6 +97,6 @@ abbrev pub dot_text : Graph → Quotient → List (List ℕ) → ℕ → ℕ →
 dot_text g q names most_blocks most_members =
     head_text
     ++ block_lines g.seen names most_members q.blocks (drawn_blocks most_blocks q.blocks)
-    ++ pair_lines g q.blocks (drawn_pairs most_blocks q)
+    ++ pair_lines (has_edge g) q.blocks (drawn_pairs most_blocks q)
     ++ note_line (length (blocks_of q.blocks) - length (drawn_blocks most_blocks q.blocks)) (pair_count q.supports - length (drawn_pairs most_blocks q))
     ++ tail_text

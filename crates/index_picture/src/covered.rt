@@ -1,6 +1,7 @@
 // Whether each node of a block has a parent in another one.
 ghost use Rattle.std.specs.Prelude.{◌≡◌, IsSome};
 ghost use Rattle.std.specs.List.{list_any};
+ghost use Rattle.graph_spec.specs.Graphs.{has_edge};
 ghost use Rattle.graph_spec.specs.Members.{at, is_this};
 ghost use Rattle.index_picture.specs.DrawnBlocks as drawn;
 
@@ -32,7 +33,7 @@ fn has_parent_in<L: Ledger>(
     n: NodeId,
     steps: &mut Steps<L>,
 ) -> bool
-    ensures { result ≡ drawn.has_parent_in graph.now.graph summary.now.blocks.block_of a n }
+    ensures { result ≡ drawn.has_parent_in (has_edge graph.now.graph) summary.now.blocks.block_of a n }
 {
     any_in(summary, a, graph.parents(n, steps))
 }
@@ -46,7 +47,7 @@ pub(crate) fn covers<L: Ledger>(
     steps: &mut Steps<L>,
 ) -> bool
     requires { IsSome (at summary.now.blocks.labels b) }
-    ensures { result ≡ drawn.covers graph.now.graph summary.now.blocks.block_of a b }
+    ensures { result ≡ drawn.covers (has_edge graph.now.graph) summary.now.blocks.block_of a b }
 {
     for n in summary.extent(b) {
         if !has_parent_in(graph, summary, a, n, steps) {

@@ -1,6 +1,7 @@
 // The lines of blocks and of pairs.
 ghost use Rattle.std.specs.Prelude.{◌≡◌, ◌<◌, ◌≤◌, ◌++◌, OnOk, IfOk, IsSome, length, nat_eq, unwrap_or, position};
 ghost use Rattle.std.specs.List.{flat_map};
+ghost use Rattle.graph_spec.specs.Graphs.{has_edge};
 ghost use Rattle.graph_spec.specs.Members.{at};
 ghost use Rattle.index_picture.specs.QuotedTexts.{quoted};
 ghost use Rattle.index_picture.specs.ShownNames.{node_name, short_label};
@@ -234,7 +235,7 @@ fn push_pair<L: Ledger>(
     pair: &Pair,
     steps: &mut Steps<L>,
 ) -> Result<(), Memory>
-    ensures { OnOk result (out.new.items ≡ out.old.items ++ picture.pair_line graph.now.graph summary.now.blocks pair.now) }
+    ensures { OnOk result (out.new.items ≡ out.old.items ++ picture.pair_line (has_edge graph.now.graph) summary.now.blocks pair.now) }
 {
     out.extend_from_slice(b"  \"")?;
     push_node(out, pair.from.first)?;
@@ -258,7 +259,7 @@ pub(crate) fn push_pairs<L: Ledger>(
     pairs: &[Pair],
     steps: &mut Steps<L>,
 ) -> Result<(), Memory>
-    ensures { OnOk result (out.new.items ≡ out.old.items ++ picture.pair_lines graph.now.graph summary.now.blocks pairs.now) }
+    ensures { OnOk result (out.new.items ≡ out.old.items ++ picture.pair_lines (has_edge graph.now.graph) summary.now.blocks pairs.now) }
 {
     for pair in pairs {
         push_pair(out, graph, summary, pair, steps)?;

@@ -1,5 +1,6 @@
 // The picture of an index.
 ghost use Rattle.std.specs.Prelude.{◌≡◌, ◌<◌, ◌++◌, ◌-◌, OnOk, IfOk, length};
+ghost use Rattle.graph_spec.specs.Graphs.{has_edge};
 ghost use Rattle.quotient.specs.Quotients.{pair_count};
 ghost use Rattle.index_picture.specs.DrawnBlocks.{blocks_of, drawn_blocks, drawn_pairs};
 ghost use Rattle.index_picture.specs.Pictures as picture;
@@ -55,7 +56,7 @@ fn push_arrows<L: Ledger>(
     requires name { blank.name ≡ L.name }
     requires parts { blank.parts ≡ L.parts }
     requires some { 0 < blank.parts }
-    ensures { OnOk result (out.new.items ≡ out.old.items ++ picture.pair_lines graph.now.graph summary.now.blocks pairs.now) }
+    ensures { OnOk result (out.new.items ≡ out.old.items ++ picture.pair_lines (has_edge graph.now.graph) summary.now.blocks pairs.now) }
 {
     let mut steps = Steps::<L>::new(blank);
     push_pairs(out, graph, summary, pairs, &mut steps)
@@ -74,7 +75,7 @@ fn push_drawn(
 ) -> Result<(), Memory>
     ensures { OnOk result (out.new.items ≡ out.old.items
         ++ (picture.block_lines graph.now.graph.seen names.now most summary.now.blocks blocks.now
-        ++ picture.pair_lines graph.now.graph summary.now.blocks pairs.now)) }
+        ++ picture.pair_lines (has_edge graph.now.graph) summary.now.blocks pairs.now)) }
 {
     push_boxes(alloc, out, graph, summary, names, most, blocks)?;
     push_arrows::<Brand>(out, graph, summary, pairs, Blank::new(1))?;
