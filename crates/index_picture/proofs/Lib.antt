@@ -3,4 +3,5 @@ pub mod ListLaws
 pub mod ParentLaws
 pub mod FirstLaws
 pub mod LoneLaws
+pub mod NameLaws
 pub mod PictureLines

@@ -2,6 +2,7 @@
 use Rattle.std.proofs.Common.{◌≡◌, ℕ, ◌<◌, ◌⊎◌, Bool, true, false, List, [], ◌∷◌, ◌||◌, ◌&&◌, not, length, Option, None, Some, refl, sym, ◌∙◌, ap, arith, inl, inr, true≢false}
 use Rattle.std.specs.List.{list_any}
 use Rattle.std.proofs.lemmas.Bool.{or_cases, or_left, or_right, and_parts, and_from, cases_lt, cases_Bool}
+use Rattle.std.proofs.lemmas.Bool.Decides.{Decides-eqb}
 use Rattle.std.proofs.lemmas.List.{get_or_past}
 use Rattle.graph_spec.specs.Members.{Lists, at, has, is_this}
 use Rattle.graph_spec.proofs.MemberLaws.{has_cases, has_head, has_tail}
@@ -28,6 +29,10 @@ any_has t (x ∷ xs) u h e = elim (has_cases x xs u h) [
   | inr later ↦ or_right (t x) (list_any t xs) (any_has t xs u later e)
 ]
 
+pub this_at : (b : ℕ) (o : Option ℕ) → is_this b o ≡ true → o ≡ Some b
+this_at b None h = absurd (true≢false (sym h))
+this_at b (Some c) h = ap Some (sym ((Decides-eqb b c).0 h))
+
 -- a node with a block has a place in the list of blocks
 pub block_within : (block : List (Option ℕ)) (a u : ℕ) → is_this a (at block u) ≡ true → u < length block
 block_within block a u h = elim (cases_lt u (length block)) [
@@ -41,13 +46,13 @@ pub parent_found : (edge : ℕ → ℕ → Bool) (block : List (Option ℕ)) (a 
 parent_found edge block a n xs l =
     both_ways (list_any (λ u. is_this a (at block u)) xs) (has_parent_in edge block a n)
     (λ h.
-        let w = any_found (λ u. is_this a (at block u)) xs h in
-        any_from (length block) (λ u. edge u n && is_this a (at block u)) w.0 (block_within block a w.0 w.2)
-        (and_from (edge w.0 n) (is_this a (at block w.0)) (sym (l.members w.0) ∙ w.1) w.2))
+    let w = any_found (λ u. is_this a (at block u)) xs h in
+    any_from (length block) (λ u. edge u n && is_this a (at block u)) w.0 (block_within block a w.0 w.2)
+    (and_from (edge w.0 n) (is_this a (at block w.0)) (sym (l.members w.0) ∙ w.1) w.2))
     (λ h.
-        let w = any_get (length block) (λ u. edge u n && is_this a (at block u)) h in
-        let both = and_parts (edge w.0 n) (is_this a (at block w.0)) w.2 in
-        any_has (λ u. is_this a (at block u)) xs w.0 (l.members w.0 ∙ both.0) both.1)
+    let w = any_get (length block) (λ u. edge u n && is_this a (at block u)) h in
+    let both = and_parts (edge w.0 n) (is_this a (at block w.0)) w.2 in
+    any_has (λ u. is_this a (at block u)) xs w.0 (l.members w.0 ∙ both.0) both.1)
 
 covered_at : (m h : Bool) → (m ≡ true → h ≡ true) → (not m || h) ≡ true
 covered_at true h f = f refl

@@ -15,7 +15,7 @@ use Rattle.index_picture.specs.declared.pairs.Pair.{Pair}
 use Rattle.index_picture.specs.QuotedTexts.{quoted_byte, quoted, Reading, outside, inside, escaped, read_byte, read_text}
 use Rattle.index_picture.specs.ShownNames.{short_label, node_name}
 use Rattle.index_picture.specs.DrawnBlocks.{firsts_below, covers, labels_used}
-use Rattle.index_picture.specs.Pictures.{colour_of, label_text, count_text, others_text, members_text, more_text, nodes_text, box_text, block_line, support_text, dash_text, pair_line, note_line, head_text, tail_text}
+use Rattle.index_picture.specs.Pictures.{colour_of, label_text, count_text, others_text, members_text, more_text, nodes_text, box_text, block_front, block_back, block_line, support_text, dash_text, arrow_text, pair_line, note_line, head_text, tail_text}
 use Rattle.index_picture.specs.PictureLaws.{IsLine, HasLines}
 
 pub read_append : (r : Reading) (a b : List ℕ) → read_text r (a ++ b) ≡ read_text (read_text r a) b
@@ -137,18 +137,24 @@ box_leads texts names most p b =
     (quoted_leads (short_label (label_text texts b.label)))
     (leads_on inside inside inside (count_text b.count) (nodes_text names b.count ns) (count_leads b.count) (nodes_lead names b.count ns))
 
+front_leads : (texts names : List (List ℕ)) (most : ℕ) (p : Partition) (b : Block) → Leads outside inside (block_front texts names most p b)
+front_leads texts names most p b =
+    leads_on outside inside inside (codes "  \"") _ (record { there = refl; unbroken = refl })
+    (leads_on inside inside inside (quoted (node_word b.first)) _ (quoted_leads (node_word b.first))
+    (leads_on inside inside inside (codes "\" [label=\"") (box_text texts names most p b) (record { there = refl; unbroken = refl }) (box_leads texts names most p b)))
+
+back_ends : (texts : List (List ℕ)) (used : List ℕ) (b : Block) → LineFrom inside (block_back texts used b)
+back_ends texts used b =
+    in_front inside inside (codes "\" tooltip=\"") _ (record { there = refl; unbroken = refl })
+    (in_front inside inside (quoted (label_text texts b.label)) _ (quoted_leads (label_text texts b.label))
+    (in_front inside inside (codes "\" fillcolor=\"") _ (record { there = refl; unbroken = refl })
+    (in_front inside inside (quoted (colour_of used b.label)) _ (quoted_leads (colour_of used b.label))
+    (record { body = codes "\"];"; line_is = refl; unbroken = refl; closed = refl }))))
+
 pub block_is_line : (texts names : List (List ℕ)) (most : ℕ) (p : Partition) (used : List ℕ) (b : Block) → IsLine (block_line texts names most p used b)
 block_is_line texts names most p used b =
-    is_line _
-    (in_front outside inside _ _ (record { there = refl; unbroken = refl })
-    (in_front inside inside _ _ (quoted_leads (node_word b.first))
-    (in_front inside inside _ _ (record { there = refl; unbroken = refl })
-    (in_front inside inside _ _ (box_leads texts names most p b)
-    (in_front inside inside _ _ (record { there = refl; unbroken = refl })
-    (in_front inside inside _ _ (quoted_leads (label_text texts b.label))
-    (in_front inside inside _ _ (record { there = refl; unbroken = refl })
-    (in_front inside inside _ _ (quoted_leads (colour_of used b.label))
-    (record { body = codes "\"];"; line_is = refl; unbroken = refl; closed = refl })))))))))
+    is_line (block_line texts names most p used b)
+    (in_front outside inside (block_front texts names most p b) (block_back texts used b) (front_leads texts names most p b) (back_ends texts used b))
 
 -- pairs
 
@@ -160,17 +166,20 @@ support_leads n = if_leads outside (nat_eq n 1) [] (codes " [label=\"" ++ quoted
 dash_leads : (c : Bool) → Leads outside outside (dash_text c)
 dash_leads c = if_leads outside c [] (codes " [style=dashed]") (nothing outside) (record { there = refl; unbroken = refl })
 
-pub pair_is_line : (g : ℕ → ℕ → Bool) (p : Partition) (r : Pair) → IsLine (pair_line g p r)
-pair_is_line g p r =
-    is_line _
-    (in_front outside inside _ _ (record { there = refl; unbroken = refl })
-    (in_front inside inside _ _ (quoted_leads (node_word r.from.first))
-    (in_front inside inside _ _ (record { there = refl; unbroken = refl })
-    (in_front inside inside _ _ (quoted_leads (node_word r.onto.first))
-    (in_front inside outside _ _ (record { there = refl; unbroken = refl })
-    (in_front outside outside _ _ (support_leads r.support)
-    (in_front outside outside _ _ (dash_leads (covers g p.block_of r.from.number r.onto.number))
-    (record { body = codes ";"; line_is = refl; unbroken = refl; closed = refl }))))))))
+arrow_leads : (r : Pair) → Leads outside outside (arrow_text r)
+arrow_leads r =
+    leads_on outside inside outside (codes "  \"") _ (record { there = refl; unbroken = refl })
+    (leads_on inside inside outside (quoted (node_word r.from.first)) _ (quoted_leads (node_word r.from.first))
+    (leads_on inside inside outside (codes "\" -> \"") _ (record { there = refl; unbroken = refl })
+    (leads_on inside inside outside (quoted (node_word r.onto.first)) (codes "\"") (quoted_leads (node_word r.onto.first)) (record { there = refl; unbroken = refl }))))
+
+pub pair_is_line : (edge : ℕ → ℕ → Bool) (p : Partition) (r : Pair) → IsLine (pair_line edge p r)
+pair_is_line edge p r =
+    is_line (pair_line edge p r)
+    (in_front outside outside (arrow_text r) _ (arrow_leads r)
+    (in_front outside outside (support_text r.support) _ (support_leads r.support)
+    (in_front outside outside (dash_text (covers edge p.block_of r.from.number r.onto.number)) (codes ";\n") (dash_leads (covers edge p.block_of r.from.number r.onto.number))
+    (record { body = codes ";"; line_is = refl; unbroken = refl; closed = refl }))))
 
 -- the whole text
 

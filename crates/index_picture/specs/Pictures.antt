@@ -51,11 +51,17 @@ abbrev pub box_text : List (List ℕ) → List (List ℕ) → ℕ → Partition 
 box_text texts names most p b =
     quoted (short_label (label_text texts b.label)) ++ count_text b.count ++ nodes_text names b.count (firsts_below most (is_member p b.number) (length p.block_of))
 
--- The line of a block. Its name is that of its least node.
+-- the front of a block's line: its name, which is that of its least node, and what its box says
+abbrev pub block_front : List (List ℕ) → List (List ℕ) → ℕ → Partition → Block → List ℕ
+block_front texts names most p b = codes "  \"" ++ quoted (node_word b.first) ++ codes "\" [label=\"" ++ box_text texts names most p b
+
+-- the rest of it: the whole label as its tooltip, and the colour of the label
+abbrev pub block_back : List (List ℕ) → List ℕ → Block → List ℕ
+block_back texts used b = codes "\" tooltip=\"" ++ quoted (label_text texts b.label) ++ codes "\" fillcolor=\"" ++ quoted (colour_of used b.label) ++ codes "\"];\n"
+
+-- the line of a block
 abbrev pub block_line : List (List ℕ) → List (List ℕ) → ℕ → Partition → List ℕ → Block → List ℕ
-block_line texts names most p used b =
-    codes "  \"" ++ quoted (node_word b.first) ++ codes "\" [label=\"" ++ box_text texts names most p b
-    ++ codes "\" tooltip=\"" ++ quoted (label_text texts b.label) ++ codes "\" fillcolor=\"" ++ quoted (colour_of used b.label) ++ codes "\"];\n"
+block_line texts names most p used b = block_front texts names most p b ++ block_back texts used b
 
 -- for how many edges a pair stands; nothing if it is one
 abbrev pub support_text : ℕ → List ℕ
@@ -65,11 +71,13 @@ support_text n = if nat_eq n 1 then [] else codes " [label=\"" ++ quoted (decima
 abbrev pub dash_text : Bool → List ℕ
 dash_text covered = if covered then [] else codes " [style=dashed]"
 
+-- the names of two blocks, with an arrow
+abbrev pub arrow_text : Pair → List ℕ
+arrow_text r = codes "  \"" ++ quoted (node_word r.from.first) ++ codes "\" -> \"" ++ quoted (node_word r.onto.first) ++ codes "\""
+
 -- the line of a pair of blocks
 abbrev pub pair_line : (ℕ → ℕ → Bool) → Partition → Pair → List ℕ
-pair_line edge p r =
-    codes "  \"" ++ quoted (node_word r.from.first) ++ codes "\" -> \"" ++ quoted (node_word r.onto.first) ++ codes "\""
-    ++ support_text r.support ++ dash_text (covers edge p.block_of r.from.number r.onto.number) ++ codes ";\n"
+pair_line edge p r = arrow_text r ++ support_text r.support ++ dash_text (covers edge p.block_of r.from.number r.onto.number) ++ codes ";\n"
 
 -- how many blocks and pairs aren't drawn; no line if all are
 abbrev pub note_line : ℕ → ℕ → List ℕ

@@ -38,8 +38,8 @@ fn has_parent_in<L: Ledger>(
     any_in(summary, a, graph.parents(n, steps))
 }
 
-/// Whether each node of the block b has a parent in the block a. O(m + p) for m nodes with p parents, no memory.
-pub(crate) fn covers<L: Ledger>(
+// Whether each node of the block b has a parent in the block a.
+fn covers_block<L: Ledger>(
     graph: &Graph,
     summary: &Summary,
     a: u32,
@@ -55,4 +55,21 @@ pub(crate) fn covers<L: Ledger>(
         }
     }
     true
+}
+
+/// Whether each node of the block b has a parent in the block a; so it is where b is no block. O(m + p) for m nodes with p parents, no
+/// memory.
+pub(crate) fn covers<L: Ledger>(
+    graph: &Graph,
+    summary: &Summary,
+    a: u32,
+    b: u32,
+    steps: &mut Steps<L>,
+) -> bool
+    ensures { result ≡ drawn.covers (has_edge graph.now.graph) summary.now.blocks.block_of a b }
+{
+    if !summary.is_block(b) {
+        return true;
+    }
+    covers_block(graph, summary, a, b, steps)
 }

@@ -11,9 +11,11 @@ mod output;
 mod pairs;
 mod picture;
 mod shortening;
+mod term_names;
 #[cfg(test)]
 mod tests;
 
 pub use lone::lone_blocks;
 pub use names::NodeNames;
 pub use picture::dot_text;
+pub use term_names::{NamesError, name_terms};

@@ -161,6 +161,37 @@ fn colour_of(used: &[u32], l: u32) -> &'static [u8]
     &PALETTE[place..place + 7]
 }
 
+// Appends the front of a block's line.
+fn push_front(
+    alloc: Global,
+    out: &mut Vec<u8>,
+    labels: &Labels,
+    names: &NodeNames,
+    most: u32,
+    summary: &Summary,
+    block: &Block,
+) -> Result<(), Memory>
+    ensures { OnOk result (out.new.items ≡ out.old.items ++ picture.block_front labels.now.texts names.now most summary.now.blocks block.now) }
+{
+    out.extend_from_slice(b"  \"")?;
+    push_node(out, block.first)?;
+    out.extend_from_slice(b"\" [label=\"")?;
+    push_box(alloc, out, labels, names, most, summary, block)?;
+    Ok(())
+}
+
+// Appends the rest of it.
+fn push_back(out: &mut Vec<u8>, labels: &Labels, used: &[u32], block: &Block) -> Result<(), Memory>
+    ensures { OnOk result (out.new.items ≡ out.old.items ++ picture.block_back labels.now.texts used.now block.now) }
+{
+    out.extend_from_slice(b"\" tooltip=\"")?;
+    push_quoted(out, label_text(labels, block.label))?;
+    out.extend_from_slice(b"\" fillcolor=\"")?;
+    push_quoted(out, colour_of(used, block.label))?;
+    out.extend_from_slice(b"\"];\n")?;
+    Ok(())
+}
+
 // Appends the line of a block.
 fn push_block(
     alloc: Global,
@@ -174,15 +205,8 @@ fn push_block(
 ) -> Result<(), Memory>
     ensures { OnOk result (out.new.items ≡ out.old.items ++ picture.block_line labels.now.texts names.now most summary.now.blocks used.now block.now) }
 {
-    out.extend_from_slice(b"  \"")?;
-    push_node(out, block.first)?;
-    out.extend_from_slice(b"\" [label=\"")?;
-    push_box(alloc, out, labels, names, most, summary, block)?;
-    out.extend_from_slice(b"\" tooltip=\"")?;
-    push_quoted(out, label_text(labels, block.label))?;
-    out.extend_from_slice(b"\" fillcolor=\"")?;
-    push_quoted(out, colour_of(used, block.label))?;
-    out.extend_from_slice(b"\"];\n")?;
+    push_front(alloc, out, labels, names, most, summary, block)?;
+    push_back(out, labels, used, block)?;
     Ok(())
 }
 
@@ -227,6 +251,18 @@ fn push_dash(out: &mut Vec<u8>, covered: bool) -> Result<(), Memory>
     Ok(())
 }
 
+// Appends the names of two blocks, with an arrow.
+fn push_arrow(out: &mut Vec<u8>, pair: &Pair) -> Result<(), Memory>
+    ensures { OnOk result (out.new.items ≡ out.old.items ++ picture.arrow_text pair.now) }
+{
+    out.extend_from_slice(b"  \"")?;
+    push_node(out, pair.from.first)?;
+    out.extend_from_slice(b"\" -> \"")?;
+    push_node(out, pair.onto.first)?;
+    out.extend_from_slice(b"\"")?;
+    Ok(())
+}
+
 // Appends the line of a pair.
 fn push_pair<L: Ledger>(
     out: &mut Vec<u8>,
@@ -237,16 +273,10 @@ fn push_pair<L: Ledger>(
 ) -> Result<(), Memory>
     ensures { OnOk result (out.new.items ≡ out.old.items ++ picture.pair_line (has_edge graph.now.graph) summary.now.blocks pair.now) }
 {
-    out.extend_from_slice(b"  \"")?;
-    push_node(out, pair.from.first)?;
-    out.extend_from_slice(b"\" -> \"")?;
-    push_node(out, pair.onto.first)?;
-    out.extend_from_slice(b"\"")?;
+    let covered = covers(graph, summary, pair.from.number, pair.onto.number, steps);
+    push_arrow(out, pair)?;
     push_support(out, pair.support)?;
-    push_dash(
-        out,
-        covers(graph, summary, pair.from.number, pair.onto.number, steps),
-    )?;
+    push_dash(out, covered)?;
     out.extend_from_slice(b";\n")?;
     Ok(())
 }

@@ -98,13 +98,44 @@ fn choose_pairs(
     alloc: Global,
     summary: &Summary,
     blocks: &[Block],
-    most: usize,
+    most: u32,
 ) -> Result<Vec<Pair>, Memory>
     ensures { IfOk result (λ p. blocks.now ≡ drawn_blocks most summary.now.blocks → p.items ≡ drawn_pairs most summary.now) }
 {
     let all = pairs_between(alloc, summary, blocks)?;
-    let pairs = strongest(alloc, &all, most * 2)?;
+    let pairs = strongest(alloc, &all, most as usize * 2)?;
     Ok(pairs)
+}
+
+// The picture of an index.
+fn text_of(
+    alloc: Global,
+    graph: &Graph,
+    summary: &Summary,
+    names: &NodeNames,
+    most_blocks: u32,
+    most_members: u32,
+) -> Result<Vec<u8>, Memory>
+    ensures { IfOk result (λ t. t.items ≡ picture.dot_text graph.now.graph summary.now names.now most_blocks most_members) }
+{
+    let (blocks, others) = choose_blocks(alloc, summary, most_blocks as usize)?;
+    let pairs = choose_pairs(alloc, summary, &blocks, most_blocks)?;
+    let other_pairs = summary.pairs().saturating_sub(pairs.len() as u64);
+    let mut out = Vec::new(alloc);
+    out.extend_from_slice(HEAD)?;
+    push_drawn(
+        alloc,
+        &mut out,
+        graph,
+        summary,
+        names,
+        most_members,
+        &blocks,
+        &pairs,
+    )?;
+    push_note(&mut out, others, other_pairs)?;
+    out.extend_from_slice(b"}\n")?;
+    Ok(out)
 }
 
 /// The picture of an index of a graph, as a text for Graphviz, in UTF-8 as labels and names are. Of the blocks the `most_blocks` with the
@@ -125,22 +156,6 @@ pub fn dot_text(
     ensures text { IfOk result (λ t. t.items ≡ picture.dot_text graph.now.graph summary.now names.now most_blocks most_members) }
     ensures lines { IfOk result (λ t. HasDrawnLines graph.now.graph summary.now names.now most_blocks most_members t.items) }
 {
-    let (blocks, others) = choose_blocks(alloc, summary, most_blocks as usize)?;
-    let pairs = choose_pairs(alloc, summary, &blocks, most_blocks as usize)?;
-    let other_pairs = summary.pairs().saturating_sub(pairs.len() as u64);
-    let mut out = Vec::new(alloc);
-    out.extend_from_slice(HEAD)?;
-    push_drawn(
-        alloc,
-        &mut out,
-        graph,
-        summary,
-        names,
-        most_members,
-        &blocks,
-        &pairs,
-    )?;
-    push_note(&mut out, others, other_pairs)?;
-    out.extend_from_slice(b"}\n")?;
-    Ok(out)
+    let text = text_of(alloc, graph, summary, names, most_blocks, most_members)?;
+    Ok(text)
 }

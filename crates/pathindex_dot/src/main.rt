@@ -1,11 +1,10 @@
 //! The program `pathindex_dot`: it writes the picture of a graph or of an index for Graphviz.
 #![tactic(auto)]
 
-mod drawing;
-mod words;
-
-use crate::drawing::run;
-use pathindex_run::{HostShelf, HostSink, Status, break_reason};
+use any_index::full_engine;
+use pathindex_run::{HostShelf, HostSink, break_reason};
+use picture_run::{Status, run};
+use px_base::Memory;
 use std::env::Env;
 use std::io::ErrorKind;
 use std::process::ExitCode;
@@ -25,20 +24,25 @@ fn tell(rt: &impl Eprint, status: u8) {
     }
 }
 
-/// Writes the picture over the real files and standard output.
-fn run_words(rt: &(impl Files + Print + AllocGlobal), words: &[String]) -> u8 {
+/// Writes the picture that the words ask for, over the real files and standard output. `Memory` comes only where there is none for
+/// the list of the indexes, and then the run isn't begun.
+fn run_words(rt: &(impl Files + Print + AllocGlobal), words: &[String]) -> Result<u8, Memory> {
+    let mut engine = full_engine(rt.alloc())?;
     let mut shelf = HostShelf::new(rt);
     let mut sink = HostSink::new(rt);
-    run(rt.alloc(), words, &mut shelf, &mut sink)
+    let status = run(rt.alloc(), words, &mut engine, &mut shelf, &mut sink);
+    Ok(status)
 }
 
 fn main(rt: HostRuntime) -> ExitCode {
     let status = match given_words(&rt) {
-        Ok(words) => {
-            let status = run_words(&rt, &words);
-            tell(&rt, status);
-            status
-        }
+        Ok(words) => match run_words(&rt, &words) {
+            Ok(status) => {
+                tell(&rt, status);
+                status
+            }
+            Err(_) => Status::NoMemory as u8,
+        },
         Err(error) if error.kind() == ErrorKind::OutOfMemory => Status::NoMemory as u8,
         Err(_) => Status::Usage as u8,
     };

@@ -1,23 +1,11 @@
-use Rattle.std.proofs.Common.{◌∙◌, ap, sym, inl, inr, true≢false}
+use Rattle.std.proofs.Common.{◌≡◌, ℕ, Option, None, Some, true, false, ◌∙◌, ap, sym, true≢false}
 use Rattle.graph_spec.specs.Graphs.{has_edge}
-use Rattle.graph_spec.specs.Members.{has}
-use Rattle.graph_spec.proofs.MemberLaws.{has_head}
-use Rattle.index_picture.proofs.ParentLaws.{covers_all, covers_not}
+use Rattle.graph_spec.specs.Members.{at, is_this}
+use Rattle.index_picture.proofs.ParentLaws.{covers_all, this_at}
 use Rattle.index_picture.proofs.covered.covers.Goals as goal
 
-pub returns-then-not-has_parent_in : goal.returns-then-not-has_parent_in
-returns-then-not-has_parent_in g c =
-    let v = c.in-Some.n in
-    sym
-    (covers_not (has_edge c.args.graph.now.graph) c.args.summary.now.blocks.block_of c.args.a c.args.b v
-    (c.loop-n.invariant.members v (ap (λ l. has l v) c.in-Some.ensures.steps ∙ has_head v c.next.new.self))
-    (sym c.has_parent_in.ensures ∙ c.if-not-has_parent_in.true))
-
-pub returns : goal.returns
-returns g c =
+pub returns-then-not-is_block : goal.returns-then-not-is_block
+returns-then-not-is_block g c =
     sym
     (covers_all (has_edge c.args.graph.now.graph) c.args.summary.now.blocks.block_of c.args.a c.args.b
-    (λ v m. elim (c.loop-n.invariant.rest v m) [
-      | inl h ↦ absurd (true≢false (sym h ∙ ap (λ l. has l v) c.in-None.ensures.steps.0))
-      | inr p ↦ p
-    ]))
+    (λ v m. absurd (true≢false (sym (c.is_block.ensures.live v (this_at c.args.b (at c.args.summary.now.blocks.block_of v) m)) ∙ c.if-not-is_block.true))))

@@ -3,7 +3,7 @@ use Rattle.graph_spec.specs.Graphs.{has_edge}
 use Rattle.graph_spec.specs.Members.{has}
 use Rattle.block_partition.specs.LabelledPartitions.{is_member}
 use Rattle.index_picture.specs.DrawnBlocks.{has_parent_in}
-use Rattle.index_picture.proofs.covered.covers.Given as goal
+use Rattle.index_picture.proofs.covered.covers_block.Given as goal
 
 abbrev pub invariant-loop-n : goal.invariant-loop-n
 invariant-loop-n g l = record {
