@@ -1,5 +1,9 @@
 // From the words to the status.
-ghost use Rattle.std.specs.Prelude.{◌≡◌, ◌<◌, ◌≤◌, None, IsSome, OnOk};
+ghost use Rattle.std.specs.Prelude.{◌≡◌, ◌≢◌, ◌<◌, ◌≤◌, None, IsSome, OnOk};
+ghost use Rattle.index_api.specs.declared.kinds.Via.TheVariants.{Data};
+ghost use Rattle.std.specs.Io.KnownBytes.{Appends};
+ghost use Rattle.index_picture.specs.Pictures as picture;
+ghost use Rattle.picture_run.specs.declared.status.Status.TheVariants.{Done, NoOutput};
 ghost use Rattle.pathindex_core.specs.Engines.{IsSound, by_meaning};
 
 use crate::status::Status;
@@ -20,7 +24,10 @@ const USAGE: &[u8] =
     b"usage: pathindex_dot GRAPH [--graph-of data|aK|one|fb|bK] [--blocks N] [--members N]\n";
 
 // Writes a text, and answers that status if it is written.
-fn show<K: Sink>(sink: &mut K, text: &[u8], status: Status) -> Status {
+fn show<K: Sink>(sink: &mut K, text: &[u8], status: Status) -> Status
+    requires own { status ≢ NoOutput }
+    ensures written { result ≡ status → Appends (K.written sink.old) (K.written sink.new) text.now }
+{
     match put_all(sink, text) {
         Ok(()) => status,
         Err(_) => Status::NoOutput,
@@ -55,7 +62,10 @@ fn show_summary<K: Sink>(
     summary: &Summary,
     names: &NodeNames,
     sink: &mut K,
-) -> Status {
+) -> Status
+    ensures drawn { result ≡ Done → Appends (K.written sink.old) (K.written sink.new)
+        (picture.dot_text graph.now.graph summary.now names.now settings.now.blocks settings.now.members) }
+{
     match dot_text(
         alloc,
         graph,
@@ -109,6 +119,7 @@ fn ready<B: PathIndex, L: Ledger>(
 ) -> Result<(), AskError>
     requires open { IsSome engine.old.opened }
     requires sound { IsSound (by_meaning B.meaning engine.old) }
+    requires index { via ≢ Data }
     requires name { blank.name ≡ L.name }
     requires parts { blank.parts ≡ L.parts }
     requires some { 0 < blank.parts }
@@ -148,10 +159,11 @@ fn show_index<B: PathIndex, K: Sink>(
 ) -> Status
     requires closed { engine.old.opened ≡ None }
     requires sound { IsSound (by_meaning B.meaning engine.old) }
+    requires index { settings.now.via ≢ Data }
 {
     let (kind, level) = place;
     if level > 8 {
-        return Status::Usage;
+        return show(sink, USAGE, Status::Usage);
     }
     match build(engine, graph, kind, level) {
         Ok(()) => match ready::<B, Brand>(engine, settings.via, Blank::new(1)) {
