@@ -105,7 +105,7 @@ is_line line l = record { body = l.body; line_is = l.line_is; unbroken = l.unbro
 -- what the box of a block says
 
 count_leads : (count : ℕ) → Leads inside inside (count_text count)
-count_leads count = if_leads inside (nat_eq count 1) [] (codes "\\n" ++ quoted (decimal count) ++ codes " nodes") (nothing inside)
+count_leads count = if_leads inside (nat_eq count 1) [] (codes "\\n" ++ (quoted (decimal count) ++ codes " nodes")) (nothing inside)
     (leads_on inside inside inside (codes "\\n") (quoted (decimal count) ++ codes " nodes") (record { there = refl; unbroken = refl })
     (leads_on inside inside inside (quoted (decimal count)) (codes " nodes") (quoted_leads (decimal count)) (record { there = refl; unbroken = refl })))
 
@@ -122,7 +122,7 @@ members_lead names (n ∷ ns) =
     (leads_on inside inside inside (quoted (node_name names n)) (others_text names ns) (quoted_leads (node_name names n)) (others_lead names ns))
 
 more_leads : (count shown : ℕ) → Leads inside inside (more_text count shown)
-more_leads count shown = if_leads inside (nat_lt shown count) (codes " and " ++ quoted (decimal (count - shown)) ++ codes " more") []
+more_leads count shown = if_leads inside (nat_lt shown count) (codes " and " ++ (quoted (decimal (count - shown)) ++ codes " more")) []
     (leads_on inside inside inside (codes " and ") (quoted (decimal (count - shown)) ++ codes " more") (record { there = refl; unbroken = refl })
     (leads_on inside inside inside (quoted (decimal (count - shown))) (codes " more") (quoted_leads (decimal (count - shown))) (record { there = refl; unbroken = refl })))
     (nothing inside)
@@ -159,7 +159,7 @@ block_is_line texts names most p used b =
 -- pairs
 
 support_leads : (n : ℕ) → Leads outside outside (support_text n)
-support_leads n = if_leads outside (nat_eq n 1) [] (codes " [label=\"" ++ quoted (decimal n) ++ codes "\"]") (nothing outside)
+support_leads n = if_leads outside (nat_eq n 1) [] (codes " [label=\"" ++ (quoted (decimal n) ++ codes "\"]")) (nothing outside)
     (leads_on outside inside outside (codes " [label=\"") (quoted (decimal n) ++ codes "\"]") (record { there = refl; unbroken = refl })
     (leads_on inside inside outside (quoted (decimal n)) (codes "\"]") (quoted_leads (decimal n)) (record { there = refl; unbroken = refl })))
 
@@ -191,8 +191,9 @@ note_closed : (blocks pairs : ℕ) → read_text outside (note_line blocks pairs
 note_closed blocks pairs = by (nat_eq blocks 0 && nat_eq pairs 0)
   where
     text : List ℕ
-    text = codes "  \"note\" [shape=plaintext style=\"\" label=\"not drawn: " ++ quoted (decimal blocks) ++ codes " smaller blocks, "
-        ++ quoted (decimal pairs) ++ codes " pairs of blocks\"];\n"
+    text =
+        codes "  \"note\" [shape=plaintext style=\"\" label=\"not drawn: "
+        ++ (quoted (decimal blocks) ++ (codes " smaller blocks, " ++ (quoted (decimal pairs) ++ codes " pairs of blocks\"];\n")))
 
     line : LineFrom outside text
     line =
@@ -210,18 +211,19 @@ closed_on : (a b : List ℕ) → read_text outside a ≡ outside → read_text o
 closed_on a b x y = read_append outside a b ∙ ap (λ q. read_text q b) x ∙ y
 
 pub has_lines : (g : Graph) (q : Quotient) (names : List (List ℕ)) (most : ℕ) (bs : List Block) (rs : List Pair) (blocks pairs : ℕ) (text : List ℕ)
-    → text ≡ head_text ++ flat_map (block_line g.seen names most q.blocks (labels_used bs)) bs ++ flat_map (pair_line (has_edge g) q.blocks) rs ++ note_line blocks pairs ++ tail_text
+    → text ≡ head_text ++ ((flat_map (block_line g.seen names most q.blocks (labels_used bs)) bs ++ flat_map (pair_line (has_edge g) q.blocks) rs) ++ (note_line blocks pairs ++ tail_text))
     → HasLines g q names most bs rs blocks pairs text
 has_lines g q names most bs rs blocks pairs text e =
     let one = block_is_line g.seen names most q.blocks (labels_used bs) in
     let two = pair_is_line (has_edge g) q.blocks in
+    let boxes = flat_map (block_line g.seen names most q.blocks (labels_used bs)) bs in
+    let arrows = flat_map (pair_line (has_edge g) q.blocks) rs in
     record {
       text_is = e;
       block = one;
       pair = two;
       closed = ap (read_text outside) e
-          ∙ closed_on head_text _ refl
-          (closed_on (flat_map (block_line g.seen names most q.blocks (labels_used bs)) bs) _ (lines_closed _ one bs)
-          (closed_on (flat_map (pair_line (has_edge g) q.blocks) rs) _ (lines_closed _ two rs)
-          (closed_on (note_line blocks pairs) _ (note_closed blocks pairs) refl)));
+          ∙ closed_on head_text ((boxes ++ arrows) ++ (note_line blocks pairs ++ tail_text)) refl
+          (closed_on (boxes ++ arrows) (note_line blocks pairs ++ tail_text) (closed_on boxes arrows (lines_closed (block_line g.seen names most q.blocks (labels_used bs)) one bs) (lines_closed (pair_line (has_edge g) q.blocks) two rs))
+          (closed_on (note_line blocks pairs) tail_text (note_closed blocks pairs) refl));
     }

@@ -19,7 +19,7 @@ pub record IsLine (line : List ℕ) : Type 0 where
 
 -- The text has one line for each of these blocks, and one for each of these pairs, and each quoted text ends within it.
 pub record HasLines (g : Graph) (q : Quotient) (names : List (List ℕ)) (most_members : ℕ) (bs : List Block) (rs : List Pair) (blocks pairs : ℕ) (text : List ℕ) : Type 0 where
-  pub text_is : text ≡ head_text ++ flat_map (block_line g.seen names most_members q.blocks (labels_used bs)) bs ++ flat_map (pair_line (has_edge g) q.blocks) rs ++ note_line blocks pairs ++ tail_text
+  pub text_is : text ≡ head_text ++ ((flat_map (block_line g.seen names most_members q.blocks (labels_used bs)) bs ++ flat_map (pair_line (has_edge g) q.blocks) rs) ++ (note_line blocks pairs ++ tail_text))
   pub block : (b : Block) → IsLine (block_line g.seen names most_members q.blocks (labels_used bs) b)
   pub pair : (r : Pair) → IsLine (pair_line (has_edge g) q.blocks r)
   pub closed : read_text outside text ≡ outside

@@ -107,6 +107,36 @@ fn choose_pairs(
     Ok(pairs)
 }
 
+// Appends how many blocks and pairs aren't drawn, and the end.
+fn push_end(out: &mut Vec<u8>, blocks: u64, pairs: u64) -> Result<(), Memory>
+    ensures { OnOk result (out.new.items ≡ out.old.items ++ (picture.note_line blocks pairs ++ picture.tail_text)) }
+{
+    push_note(out, blocks, pairs)?;
+    out.extend_from_slice(b"}\n")?;
+    Ok(())
+}
+
+// The picture in which these blocks and pairs are drawn, and so many aren't.
+fn draw(
+    alloc: Global,
+    graph: &Graph,
+    summary: &Summary,
+    names: &NodeNames,
+    most: u32,
+    blocks: &[Block],
+    pairs: &[Pair],
+    other_blocks: u64,
+    other_pairs: u64,
+) -> Result<Vec<u8>, Memory>
+    ensures { IfOk result (λ t. t.items ≡ picture.drawn_text graph.now.graph summary.now names.now most blocks.now pairs.now other_blocks other_pairs) }
+{
+    let mut out = Vec::new(alloc);
+    out.extend_from_slice(HEAD)?;
+    push_drawn(alloc, &mut out, graph, summary, names, most, blocks, pairs)?;
+    push_end(&mut out, other_blocks, other_pairs)?;
+    Ok(out)
+}
+
 // The picture of an index.
 fn text_of(
     alloc: Global,
@@ -121,21 +151,18 @@ fn text_of(
     let (blocks, others) = choose_blocks(alloc, summary, most_blocks as usize)?;
     let pairs = choose_pairs(alloc, summary, &blocks, most_blocks)?;
     let other_pairs = summary.pairs().saturating_sub(pairs.len() as u64);
-    let mut out = Vec::new(alloc);
-    out.extend_from_slice(HEAD)?;
-    push_drawn(
+    let text = draw(
         alloc,
-        &mut out,
         graph,
         summary,
         names,
         most_members,
         &blocks,
         &pairs,
+        others,
+        other_pairs,
     )?;
-    push_note(&mut out, others, other_pairs)?;
-    out.extend_from_slice(b"}\n")?;
-    Ok(out)
+    Ok(text)
 }
 
 /// The picture of an index of a graph, as a text for Graphviz, in UTF-8 as labels and names are. Of the blocks the `most_blocks` with the

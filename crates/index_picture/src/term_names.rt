@@ -36,6 +36,7 @@ impl From<Memory> for NamesError {
 }
 
 // Names the node of a term, if it has one and no name yet.
+#[tactic(auto, using(crate::proofs::NameLaws::named_more))]
 fn name_term(alloc: Global, list: &mut NodeNames, names: &Names, term: &Term) -> Result<(), Memory>
     requires { AreTermNames names.now.names.terms list.old }
     ensures { OnOk result (AreTermNames names.now.names.terms list.new) }
@@ -115,6 +116,7 @@ fn name_lines<H: Shelf>(
 }
 
 // Names the nodes of the terms of the file that is open.
+#[tactic(auto, using(crate::proofs::NameLaws::none_named))]
 fn name_file<H: Shelf>(
     alloc: Global,
     names: &Names,

@@ -16,4 +16,4 @@ returns g c =
     then_push c.args.out.now.items c.push_arrow.new.out.items z a (b ++ (d ++ f)) c.in_ok-push_arrow.ensures
     (then_push c.push_arrow.new.out.items c.push_support.new.out.items z b (d ++ f) c.in_ok-push_support.ensures
     (then_push c.push_support.new.out.items c.push_dash.new.out.items z d f
-    (c.in_ok-push_dash.ensures ∙ ap (λ t. c.push_support.new.out.items ++ dash_text t) c.covers.ensures) c.in_ok-extend_from_slice.ensures.items))
+    (c.in_ok-push_dash.ensures ∙ ap (λ t. c.push_support.new.out.items ++ dash_text t) c.covers-covered.ensures) c.in_ok-extend_from_slice.ensures.items))
