@@ -4,4 +4,5 @@ pub mod ParentLaws
 pub mod FirstLaws
 pub mod LoneLaws
 pub mod NameLaws
+pub mod DrawnTexts
 pub mod PictureLines

@@ -15,7 +15,7 @@ use Rattle.index_picture.specs.declared.pairs.Pair.{Pair}
 use Rattle.index_picture.specs.QuotedTexts.{quoted_byte, quoted, Reading, outside, inside, escaped, read_byte, read_text}
 use Rattle.index_picture.specs.ShownNames.{short_label, node_name}
 use Rattle.index_picture.specs.DrawnBlocks.{firsts_below, covers, labels_used}
-use Rattle.index_picture.specs.Pictures.{colour_of, label_text, count_text, others_text, members_text, more_text, nodes_text, box_text, block_front, block_back, block_line, support_text, dash_text, arrow_text, pair_line, note_line, head_text, tail_text}
+use Rattle.index_picture.specs.Pictures.{colour_of, label_text, count_text, others_text, members_text, more_text, nodes_text, box_text, block_front, block_back, block_line, support_text, dash_text, arrow_text, pair_line, left_text, is_whole, note_line, head_text, tail_text}
 use Rattle.index_picture.specs.PictureLaws.{IsLine, HasLines}
 
 pub read_append : (r : Reading) (a b : List ℕ) → read_text r (a ++ b) ≡ read_text (read_text r a) b
@@ -23,9 +23,9 @@ read_append r [] b = refl
 read_append r (x ∷ a) b = read_append (read_byte r x) a b
 
 -- the text leads from the one state to the other, and has no LF
-record Leads (r s : Reading) (t : List ℕ) : Type 0 where
-  there : read_text r t ≡ s
-  unbroken : has t 10 ≡ false
+pub record Leads (r s : Reading) (t : List ℕ) : Type 0 where
+  pub there : read_text r t ≡ s
+  pub unbroken : has t 10 ≡ false
 
 leads_on : (r s u : Reading) (a b : List ℕ) → Leads r s a → Leads s u b → Leads r u (a ++ b)
 leads_on r s u a b x y = record {
@@ -48,7 +48,7 @@ no_break : (b : ℕ) → 32 ≤ b → nat_eq 10 b ≡ false
 no_break b l = elim (eqb_tells 10 b) [ inl s ↦ absurd (let e = s.1 in omega (arith, l, e)) | inr a ↦ a.0 ]
 
 -- what is written for a byte, by what the tests say of it
-written : ℕ → Bool → Bool → Bool → Bool → List ℕ
+abbrev written : ℕ → Bool → Bool → Bool → Bool → List ℕ
 written b q s a c = if q || s then 92 ∷ b ∷ [] else if a then codes "&amp;" else if c then 32 ∷ [] else b ∷ []
 
 byte_there : (b : ℕ) (q s a c : Bool) → nat_eq b 34 ≡ q → nat_eq b 92 ≡ s → read_text inside (written b q s a c) ≡ inside
@@ -85,11 +85,11 @@ pub quoted_leads : (t : List ℕ) → Leads inside inside (quoted t)
 quoted_leads t = all_lead inside quoted_byte byte_leads t
 
 -- a line from a state on
-record LineFrom (r : Reading) (line : List ℕ) : Type 0 where
-  body : List ℕ
-  line_is : line ≡ body ++ 10 ∷ []
-  unbroken : has body 10 ≡ false
-  closed : read_text r line ≡ outside
+pub record LineFrom (r : Reading) (line : List ℕ) : Type 0 where
+  pub body : List ℕ
+  pub line_is : line ≡ body ++ 10 ∷ []
+  pub unbroken : has body 10 ≡ false
+  pub closed : read_text r line ≡ outside
 
 in_front : (r s : Reading) (t line : List ℕ) → Leads r s t → LineFrom s line → LineFrom r (t ++ line)
 in_front r s t line x y = record {
@@ -187,25 +187,20 @@ lines_closed : {X : Type 0} (f : X → List ℕ) → ((x : X) → IsLine (f x)) 
 lines_closed f h [] = refl
 lines_closed f h (x ∷ xs) = read_append outside (f x) (flat_map f xs) ∙ ap (λ q. read_text q (flat_map f xs)) ((h x).closed) ∙ lines_closed f h xs
 
+left_line : (blocks pairs : ℕ) → LineFrom outside (left_text blocks pairs)
+left_line blocks pairs =
+    in_front outside inside (codes "  \"note\" [shape=plaintext style=\"\" label=\"not drawn: ") _ (record { there = refl; unbroken = refl })
+    (in_front inside inside (quoted (decimal blocks)) _ (quoted_leads (decimal blocks))
+    (in_front inside inside (codes " smaller blocks, ") _ (record { there = refl; unbroken = refl })
+    (in_front inside inside (quoted (decimal pairs)) _ (quoted_leads (decimal pairs))
+    (record { body = codes " pairs of blocks\"];"; line_is = refl; unbroken = refl; closed = refl }))))
+
 note_closed : (blocks pairs : ℕ) → read_text outside (note_line blocks pairs) ≡ outside
-note_closed blocks pairs = by (nat_eq blocks 0 && nat_eq pairs 0)
+note_closed blocks pairs = by (is_whole blocks pairs)
   where
-    text : List ℕ
-    text =
-        codes "  \"note\" [shape=plaintext style=\"\" label=\"not drawn: "
-        ++ (quoted (decimal blocks) ++ (codes " smaller blocks, " ++ (quoted (decimal pairs) ++ codes " pairs of blocks\"];\n")))
-
-    line : LineFrom outside text
-    line =
-        in_front outside inside _ _ (record { there = refl; unbroken = refl })
-        (in_front inside inside _ _ (quoted_leads (decimal blocks))
-        (in_front inside inside _ _ (record { there = refl; unbroken = refl })
-        (in_front inside inside _ _ (quoted_leads (decimal pairs))
-        (record { body = codes " pairs of blocks\"];"; line_is = refl; unbroken = refl; closed = refl }))))
-
-    by : (c : Bool) → read_text outside (if c then [] else text) ≡ outside
+    by : (c : Bool) → read_text outside (if c then [] else left_text blocks pairs) ≡ outside
     by true = refl
-    by false = line.closed
+    by false = (left_line blocks pairs).closed
 
 closed_on : (a b : List ℕ) → read_text outside a ≡ outside → read_text outside b ≡ outside → read_text outside (a ++ b) ≡ outside
 closed_on a b x y = read_append outside a b ∙ ap (λ q. read_text q b) x ∙ y

@@ -80,10 +80,18 @@ arrow_text r = codes "  \"" ++ (quoted (node_word r.from.first) ++ (codes "\" ->
 abbrev pub pair_line : (ℕ → ℕ → Bool) → Partition → Pair → List ℕ
 pair_line edge p r = arrow_text r ++ (support_text r.support ++ (dash_text (covers edge p.block_of r.from.number r.onto.number) ++ codes ";\n"))
 
--- how many blocks and pairs aren't drawn; no line if all are
+-- how many blocks and pairs aren't drawn, as a line
+abbrev pub left_text : ℕ → ℕ → List ℕ
+left_text blocks pairs =
+    codes "  \"note\" [shape=plaintext style=\"\" label=\"not drawn: " ++ (quoted (decimal blocks) ++ (codes " smaller blocks, " ++ (quoted (decimal pairs) ++ codes " pairs of blocks\"];\n")))
+
+-- whether all are drawn
+abbrev pub is_whole : ℕ → ℕ → Bool
+is_whole blocks pairs = nat_eq blocks 0 && nat_eq pairs 0
+
+-- that line; none if all are drawn
 abbrev pub note_line : ℕ → ℕ → List ℕ
-note_line blocks pairs =
-    if nat_eq blocks 0 && nat_eq pairs 0 then [] else codes "  \"note\" [shape=plaintext style=\"\" label=\"not drawn: " ++ (quoted (decimal blocks) ++ (codes " smaller blocks, " ++ (quoted (decimal pairs) ++ codes " pairs of blocks\"];\n")))
+note_line blocks pairs = if is_whole blocks pairs then [] else left_text blocks pairs
 
 abbrev pub head_text : List ℕ
 head_text = codes "digraph pathindex {\n  rankdir=TB; nodesep=0.25; ranksep=0.45;\n  node [fontname=\"Helvetica\" fontsize=11 shape=box style=\"filled,rounded\" penwidth=0.8 margin=\"0.12,0.06\"];\n  edge [fontname=\"Helvetica\" fontsize=9 arrowsize=0.7 color=\"#555555\"];\n"

@@ -297,17 +297,30 @@ pub(crate) fn push_pairs<L: Ledger>(
     Ok(())
 }
 
-/// Appends how many blocks and pairs aren't drawn, if any.
-pub(crate) fn push_note(out: &mut Vec<u8>, blocks: u64, pairs: u64) -> Result<(), Memory>
-    ensures { OnOk result (out.new.items ≡ out.old.items ++ picture.note_line blocks pairs) }
+fn is_whole(blocks: u64, pairs: u64) -> bool
+    ensures { result ≡ picture.is_whole blocks pairs }
 {
-    if blocks == 0 && pairs == 0 {
-        return Ok(());
-    }
+    blocks == 0 && pairs == 0
+}
+
+// Appends how many blocks and pairs aren't drawn.
+fn push_left(out: &mut Vec<u8>, blocks: u64, pairs: u64) -> Result<(), Memory>
+    ensures { OnOk result (out.new.items ≡ out.old.items ++ picture.left_text blocks pairs) }
+{
     out.extend_from_slice(b"  \"note\" [shape=plaintext style=\"\" label=\"not drawn: ")?;
     push_number(out, blocks)?;
     out.extend_from_slice(b" smaller blocks, ")?;
     push_number(out, pairs)?;
     out.extend_from_slice(b" pairs of blocks\"];\n")?;
     Ok(())
+}
+
+/// Appends how many blocks and pairs aren't drawn, if any.
+pub(crate) fn push_note(out: &mut Vec<u8>, blocks: u64, pairs: u64) -> Result<(), Memory>
+    ensures { OnOk result (out.new.items ≡ out.old.items ++ picture.note_line blocks pairs) }
+{
+    if is_whole(blocks, pairs) {
+        return Ok(());
+    }
+    push_left(out, blocks, pairs)
 }

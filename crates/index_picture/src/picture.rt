@@ -107,6 +107,13 @@ fn choose_pairs(
     Ok(pairs)
 }
 
+// How many pairs there are beside these.
+fn others_of(summary: &Summary, pairs: &[Pair]) -> u64
+    ensures { result ≡ pair_count summary.now.supports - length pairs.now }
+{
+    summary.pairs().saturating_sub(pairs.len() as u64)
+}
+
 // Appends how many blocks and pairs aren't drawn, and the end.
 fn push_end(out: &mut Vec<u8>, blocks: u64, pairs: u64) -> Result<(), Memory>
     ensures { OnOk result (out.new.items ≡ out.old.items ++ (picture.note_line blocks pairs ++ picture.tail_text)) }
@@ -150,7 +157,7 @@ fn text_of(
 {
     let (blocks, others) = choose_blocks(alloc, summary, most_blocks as usize)?;
     let pairs = choose_pairs(alloc, summary, &blocks, most_blocks)?;
-    let other_pairs = summary.pairs().saturating_sub(pairs.len() as u64);
+    let other_pairs = others_of(summary, &pairs);
     let text = draw(
         alloc,
         graph,
