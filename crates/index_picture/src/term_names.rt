@@ -100,6 +100,7 @@ fn name_lines<H: Shelf>(
     requires named { AreTermNames names.now.names.terms list.old }
     requires can { CanRead reader.old (H.is_open shelf.old) }
     ensures named { OnOk result (AreTermNames names.now.names.terms list.new) }
+    ensures found { result ≢ Err NamesError.Missing }
     ensures files { H.files shelf.new ≡ H.files shelf.old }
     ensures fault { IsErrOf result NamesError.Fault → MayHaveRisen (H.faults shelf.old) (H.faults shelf.new) }
     ensures no_fault { result ≢ Err NamesError.Fault → H.faults shelf.new ≡ H.faults shelf.old }
