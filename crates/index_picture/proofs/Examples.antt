@@ -12,7 +12,7 @@ use Rattle.index_picture.specs.Pictures.{nodes_text, block_lines, pair_lines, no
 
 -- texts between quotes
 
-plain_stays : quoted (codes "né <a>") ≡ codes "né <a>"
+plain_stays : quoted (codes "<a>#b") ≡ codes "<a>#b"
 plain_stays = refl
 
 quote_and_backslash : quoted (codes "a\"b\\c") ≡ codes "a\\\"b\\\\c"
@@ -61,7 +61,7 @@ long_is_cut : shortened (codes "abcdefghijklmnopqrstuvwxy") ≡ codes "abcdefghi
 long_is_cut = refl
 
 -- the two bytes of `é` stay together
-character_stays_whole : shortened (codes "abcdefghijklmnopqrstuéwxy") ≡ codes "abcdefghijklmnopqrstu.."
+character_stays_whole : shortened (codes "abcdefghijklmnopqrstu" ++ 195 ∷ 169 ∷ codes "wxy") ≡ codes "abcdefghijklmnopqrstu.."
 character_stays_whole = refl
 
 iri_name : term_name (Iri (codes "http://e/ana")) ≡ codes "ana"
