@@ -25,8 +25,8 @@ use Rattle.pathindex_session.specs.Sessions.{SessionOf, engine_in, graph_of}
 use Rattle.pathindex_session.specs.TextAnswers.{IsAskedHow, IsExplained, AnswersText, ExplainsText, ChecksText}
 
 -- a refusal for the limit is no other
-limit_alone : {X : Type 0} (r : Refusal) → Err {A = X} (Refused Limit) ≡ Err (Refused r) → r ≡ Limit
-limit_alone r e = (let f : Limit ≡ r = cc in sym f)
+limit_alone : {X : Type 0} (result : Result X QueryError) (r : Refusal) → result ≡ Err (Refused Limit) → result ≡ Err (Refused r) → r ≡ Limit
+limit_alone result r is e = (let f : Limit ≡ r = cc in sym f)
 
 -- a text that is no query
 pub text_failed : {X : Type 0} (spells : Query → Type 0) (past : Bool) (s t : SessionOf) (via : Via) (parsed : Result X ExprError) (error : ExprError) → parsed ≡ Err error → ((parsed ≡ Err text_error.Limit) ↔ IsTrue past)
@@ -36,7 +36,7 @@ text_failed spells past s t via parsed text_error.Limit is limit syntax = record
   limit = (λ _. limit.0 is, λ _. refl);
   no_index = λ e. absurd (cc);
   missing = λ m how e. cc;
-  only = λ r e. inl (limit_alone r e);
+  only = λ r e. inl (limit_alone (Err (Refused Limit)) r refl e);
   syntax = λ e. absurd (cc);
 }
 text_failed spells past s t via parsed text_error.Syntax is limit syntax = record {
@@ -57,11 +57,11 @@ text_failed spells past s t via parsed text_error.Memory is limit syntax = recor
 }
 
 -- a query is refused for a missing index alone
-missing_alone : (s t : SessionOf) (via : Via) (q : Query) (error : QueryError) (r : Refusal) → Err {A = How} error ≡ Err (Refused r) → IsAskedHow s t via q (Err error) → r ≡ NoIndex
-missing_alone s t via q error NoIndex e asked = refl
-missing_alone s t via q error NoNode e asked = absurd (let f = asked.no_other (λ g. cc) error refl in cc)
-missing_alone s t via q error NoEdge e asked = absurd (let f = asked.no_other (λ g. cc) error refl in cc)
-missing_alone s t via q error Limit e asked = absurd (let f = asked.no_other (λ g. cc) error refl in cc)
+missing_alone : (s t : SessionOf) (via : Via) (q : Query) (result : Result How QueryError) (r : Refusal) → result ≡ Err (Refused r) → IsAskedHow s t via q result → r ≡ NoIndex
+missing_alone s t via q result NoIndex e asked = refl
+missing_alone s t via q result NoNode e asked = absurd (let f = asked.no_other (λ g. cc) (Refused NoNode) e in cc)
+missing_alone s t via q result NoEdge e asked = absurd (let f = asked.no_other (λ g. cc) (Refused NoEdge) e in cc)
+missing_alone s t via q result Limit e asked = absurd (let f = asked.no_other (λ g. cc) (Refused Limit) e in cc)
 
 -- a text that is one
 pub text_asked : {X : Type 0} (spells : Query → Type 0) (past : Bool) (s t : SessionOf) (via : Via) (parsed : Result X ExprError) (x : X) (q : Query) (result : Result How QueryError)
@@ -79,7 +79,7 @@ text_asked spells past s t via parsed x q (Err error) is limit spelled asked = r
   limit = (λ e. absurd (let f = asked.no_other (λ g. cc) error refl in cc), λ p. absurd (let e = limit.1 p in cc));
   no_index = asked.no_index.0;
   missing = λ m h e. cc;
-  only = λ r e. inr (missing_alone s t via q error r e asked);
+  only = λ r e. inr (missing_alone s t via q (Err error) r e asked);
   syntax = λ e. absurd (let f = asked.no_other (λ g. cc) error refl in cc);
 }
 
@@ -104,7 +104,7 @@ explain_failed text past s t v parsed text_error.Limit is limit syntax = record 
   limit = (λ _. limit.0 is, λ _. refl);
   no_node = λ e. absurd (cc);
   live = λ off b e. cc;
-  only = λ r e. inl (limit_alone r e);
+  only = λ r e. inl (limit_alone (Err (Refused Limit)) r refl e);
   syntax = λ e. absurd (cc);
 }
 explain_failed text past s t v parsed text_error.Syntax is limit syntax = record {
@@ -160,7 +160,7 @@ pub check_failed : {X : Type 0} (text : List ℕ) (past : Bool) (s : SessionOf) 
 check_failed text past s v walk parsed text_error.Limit is limit syntax = record {
   checked = tt;
   limit = (λ _. limit.0 is, λ _. refl);
-  only = λ r e. limit_alone r e;
+  only = λ r e. limit_alone (Err (Refused Limit)) r refl e;
   syntax = λ e. absurd (cc);
 }
 check_failed text past s v walk parsed text_error.Syntax is limit syntax = record {
