@@ -160,7 +160,7 @@ returns-in-Ok-AtBad-clause-sink_fault g c e =
     rw (← same) (c.finish.ensures.sink e)
 
 pub returns-in-Err-clause-shelf_fault : goal.returns-in-Err-clause-shelf_fault
-returns-in-Err-clause-shelf_fault g c e = rw (← c.lines.invariant.shelf_faults) (c.in-Err.ensures.fault e)
+returns-in-Err-clause-shelf_fault g c e = rw (← c.lines.invariant.shelf_faults) (c.in-Err.ensures.fault (ap Err (err_value _ _ _ refl e)))
 
 pub returns-in_err-save-in-Ok-Saves-clause-sink_fault : goal.returns-in_err-save-in-Ok-Saves-clause-sink_fault
 returns-in_err-save-in-Ok-Saves-clause-sink_fault g c e =
