@@ -41,6 +41,7 @@ pub begins_labels : (name : Option (List ℕ)) (files : List File) (g : Graph) (
 begins_labels None files g n b = subst HasLabels (sym b.0) empty_labels
 begins_labels (Some name) files g n b = named_labels program_limits b.0 g n b.2
 
+-- The same, where nothing is said of the numbers of terms and triples.
 pub begins_with_labels : (name : Option (List ℕ)) (files : List File) (g : Graph) → BeginsWith name files g → HasLabels g
 begins_with_labels None files g b = subst HasLabels (sym b) empty_labels
 begins_with_labels (Some name) files g b = loads_labels program_limits b.0 g b.2

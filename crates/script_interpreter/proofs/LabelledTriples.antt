@@ -24,7 +24,7 @@ plain_blank = (refl, (λ e. omega (arith, ap (λ l. slice_index l 0) e)), (λ e.
 plain_literal : IsPlainLabel (codes "literal")
 plain_literal = (refl, (λ e. omega (arith, ap (λ l. slice_index l 0) e)), (λ e. omega (arith, ap (λ l. slice_index l 0) e)), (λ e. omega (arith, ap (λ l. slice_index l 0) e)))
 
--- that of a term is spelled as it is
+-- the label of a term is spelled as it is
 pub term_spelled : (x : Term) → SpellsLabel (term_label x) (term_label x)
 term_spelled (Iri iri) = inl (plain_iri, refl)
 term_spelled (Blank label) = inl (plain_blank, refl)
