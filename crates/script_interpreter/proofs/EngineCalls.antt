@@ -1,6 +1,6 @@
 -- What each call of the engine makes of the state of a run.
 use Rattle.std.proofs.Common.{◌≡◌, Bool, true, false, List, [], ◌∷◌, length, ◌≤◌, ◌+◌, ◌^◌, Some, Ok, Err, refl, sym, ap, ◌∙◌, subst, cond, true≢false, arith}
-use Rattle.std.specs.Prelude.{◌||◌, ◌-◌, ◌↔◌, ℕ, All, is_err, not}
+use Rattle.std.specs.Prelude.{◌||◌, ◌-◌, ℕ, All, is_err, not}
 use Rattle.graph_spec.specs.Graphs.{Graph}
 use Rattle.std.specs.List.{filter}
 use Rattle.graph_spec.specs.declared.refusal.Refusal.{Refusal}

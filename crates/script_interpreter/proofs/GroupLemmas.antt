@@ -152,12 +152,12 @@ nothing_not_in_group limits line n (inl q) = n.0.0 q
 nothing_not_in_group limits line n (inr (inl k)) = n.0.1 (change k.0) k.1
 nothing_not_in_group limits line n (inr (inr k)) = n.0.1 end k
 
--- a command that is neither the first nor the last line of a group, nor writes a file
-pub stands_alone : (c : Command) → c ≢ begin → c ≢ end → c ≢ save → IsAlone c
-stands_alone begin b e s = b refl
-stands_alone end b e s = e refl
-stands_alone save b e s = s refl
-stands_alone c b e s = tt
+-- a command that doesn't stand alone, and is neither the first nor the last line of a group, writes a file
+pub marks_save : (c : Command) → ¬ IsAlone c → c ≢ begin → c ≢ end → c ≡ save
+marks_save begin n b e = absurd (b refl)
+marks_save end n b e = absurd (e refl)
+marks_save save n b e = refl
+marks_save c n b e = absurd (n tt)
 
 -- no group is open where the code has none
 pub none_kept : (kept : Option OpenGroup) → kept ≡ None → IsKeptAs None kept

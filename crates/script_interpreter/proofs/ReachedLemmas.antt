@@ -227,5 +227,9 @@ pub err_fact : {T E : Type 0} (r : Result T E) (A B : Type 0) → OnErr r A → 
 err_fact (Ok s) A B a f = tt
 err_fact (Err x) A B a f = f a
 
+-- an answer has one error
+pub err_value : {T E : Type 0} (x y : E) (r : Result T E) → r ≡ Err x → r ≡ Err y → x ≡ y
+err_value x y r h k = cc
+
 pub all_written : (new newer : Option (List ℕ)) (gathered : List ℕ) → Appends new newer gathered → PartWritten new newer gathered
 all_written new newer gathered w = record { prefix = gathered; rest = []; gathered_is = sym (append-nil gathered); written = w }

@@ -8,13 +8,14 @@ ghost use Rattle.graph_steps.specs.StepLists.{step_of};
 ghost use Rattle.index_api.specs.declared.kinds.Via.TheVariants.{Data};
 ghost use Rattle.branch_query.specs.Queries.{query_of};
 ghost use Rattle.script_read.specs.Commands.{change as changing, begin as beginning, end as ending, why as asking_why, check as checking};
-ghost use Rattle.script_read.specs.Commands.{extents as listing, sizes as measuring, save as saving, forget as forgetting};
+ghost use Rattle.script_read.specs.Commands.{extents as listing, sizes as measuring, forget as forgetting};
 ghost use Rattle.script_read.specs.ReadLines.{command_of, ReadsCommand};
-ghost use Rattle.script_read.specs.Commands.{IsSpelled};
+ghost use Rattle.script_read.specs.Commands.{IsSpelled, PassesLimit};
 ghost use Rattle.graph_spec.specs.ProgramLimits.{program_limits};
 ghost use Rattle.triple_names.specs.Names.{Names as Numbers};
 ghost use Rattle.pathindex_core.specs.Engines.{by_meaning};
 ghost use Rattle.script_interpreter.specs.EngineStates.{state_of, IsOpen};
+ghost use Rattle.script_interpreter.specs.Outputs.{Gathered};
 ghost use Rattle.script_interpreter.specs.States.{State};
 ghost use Rattle.script_interpreter.specs.Walks.{ShowsLast};
 ghost use Rattle.script_interpreter.specs.RunSteps.{query_command, IsAlone, Changed, Obeyed, LineComes};
@@ -299,11 +300,11 @@ fn is_end(command: &Command) -> bool
     matches!(*command, Command::End)
 }
 
-/// Whether a command asks for an index file.
-fn is_save(command: &Command) -> bool
-    ensures { IsTrue result ↔ (command_of command.now ≡ saving) }
+/// Whether a command is carried out where it stands, and what it prints is gathered.
+fn is_alone(command: &Command) -> bool
+    ensures { IsTrue result ↔ IsAlone (command_of command.now) }
 {
-    matches!(*command, Command::Save)
+    !matches!(*command, Command::Begin | Command::End | Command::Save)
 }
 
 /// The step that a command is, if it is one.
@@ -332,6 +333,28 @@ fn step(command: Command) -> Option<Step>
     }
 }
 
+/// Takes the first or last line of a group, or one that asks for an index file, which is written later.
+fn take_mark(
+    alloc: Global,
+    number: u32,
+    command: &Command,
+    group: &mut Option<OpenGroup>,
+) -> Result<Outcome, Memory>
+    requires mark { ¬ IsAlone (command_of command.now) }
+    requires none { group.old ≡ None }
+    ensures { IfOk result (λ outcome. (s : State) (old : Gathered) (line : List ℕ) → IsSpelled line (command_of command.now)
+        → ¬ PassesLimit program_limits line → (left : Option Group) × IsKeptAs left group.new × LineComes s number line None old outcome s left old) }
+{
+    if is_begin(command) {
+        *group = Some(OpenGroup::begin(alloc, number)?);
+        Ok(Outcome::Done)
+    } else if is_end(command) {
+        Ok(Outcome::Bad)
+    } else {
+        Ok(Outcome::Due)
+    }
+}
+
 /// Carries out the command of a line that stands in no group.
 fn take_command<B: PathIndex>(
     alloc: Global,
@@ -351,16 +374,11 @@ fn take_command<B: PathIndex>(
         (state_of B.meaning engine.new names.new.names) left output.new) }
     ensures err { OnErr result (output.new ≡ output.old) }
 {
-    if is_begin(&command) {
-        *group = Some(OpenGroup::begin(alloc, number)?);
-        Ok(Outcome::Done)
-    } else if is_end(&command) {
-        Ok(Outcome::Bad)
-    } else if is_save(&command) {
-        Ok(Outcome::Due)
-    } else {
+    if is_alone(&command) {
         obey::<B, Brand>(alloc, engine, names, command, output, Blank::new(1))?;
         Ok(Outcome::Done)
+    } else {
+        take_mark(alloc, number, &command, group)
     }
 }
 

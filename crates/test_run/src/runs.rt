@@ -536,8 +536,7 @@ fn a_failing_write_cuts_an_index_file_short(rt: HostRuntime) {
     assert!(rt; is_cut_short(rt.alloc(), 5, "added n0\npat"));
     let graph = "added n0\npathindex 1\ngiven 1 k 0\nlive a\nedges 0\nviews 1\n";
     assert!(rt; is_cut_short(rt.alloc(), 20, graph));
-    let part =
-        "added n0\npathindex 1\ngiven 1 k 0\nlive a\nedges 0\nviews 1\nvie";
+    let part = "added n0\npathindex 1\ngiven 1 k 0\nlive a\nedges 0\nviews 1\nvie";
     assert!(rt; is_cut_short(rt.alloc(), 21, part));
 }
 

@@ -1,4 +1,4 @@
-use Rattle.std.proofs.Common.{◌≡◌, ◌≤◌, arith, sym, ◌∙◌, ap, refl}
+use Rattle.std.proofs.Common.{arith, sym, ◌∙◌, ap, refl}
 use Rattle.std.specs.Prelude.{if◌then◌else◌}
 use Rattle.index_api.specs.IndexKinds.{is_kept}
 use Rattle.index_api.specs.IndexOrder.{all_indexes}

@@ -1,4 +1,4 @@
-use Rattle.std.proofs.Common.{◌≡◌, ◌∙◌, ap, sym, subst, rules, None}
+use Rattle.std.proofs.Common.{◌≡◌, ◌∙◌, ap, sym, subst, refl, rules, None, Err}
 use Rattle.std.specs.Prelude.{is_some}
 use Rattle.std.proofs.lemmas.Result.{err_from_is_err_and}
 use Rattle.index_file.specs.WholeFiles.{HasLabels}
@@ -10,7 +10,7 @@ use Rattle.script_interpreter.specs.States.{State}
 use Rattle.script_interpreter.specs.Runs.{end_status}
 use Rattle.script_interpreter.specs.Rules.{rules_for}
 use Rattle.script_interpreter.specs.RunSteps.{progress}
-use Rattle.script_interpreter.proofs.ReachedLemmas.{labels_reached, reached-start, reached-more, reached-written, ran-over, ran-bad, reached-saved, prefix-part, prefix-saved, prefix-bad, prefix-over, part_written, nothing_written, all_written, ok_fact, err_fact}
+use Rattle.script_interpreter.proofs.ReachedLemmas.{labels_reached, reached-start, reached-more, reached-written, ran-over, ran-bad, reached-saved, prefix-part, prefix-saved, prefix-bad, prefix-over, part_written, nothing_written, all_written, ok_fact, err_fact, err_value}
 use Rattle.script_interpreter.proofs.KeptGroups.{kept_some}
 use Rattle.script_interpreter.proofs.EngineCalls.{same_asked}
 use Rattle.script_interpreter.proofs.PieceLaws.{file_of, part_of}
@@ -42,8 +42,8 @@ returns-in_err-flush_if_due-clause-part g c labels =
     let p = err_from_is_err_and c.from_residual-in_err-flush_if_due.result c.from_residual-in_err-flush_if_due.ensures.1 in
     rw p.1 (prefix-part _ _ (c.lines.invariant.stands.reached labels) _ (part_written _ _ _ c.in_err-flush_if_due.ensures.part))
 
-pub lines-preserved : goal.lines-preserved
-lines-preserved g c =
+pub lines-preserved-in-Ok-Taken : goal.lines-preserved-in-Ok-Taken
+lines-preserved-in-Ok-Taken g c =
     let step = c.in-Ok-Taken.ensures.goes c.lines.invariant.stands.group c.lines.invariant.stands.is_kept in
     let goes = rw (c.in-Ok-Taken.field-0-is, c.in_ok-flush_if_due.ensures.kept, c.lines.invariant.printing) at step.3 in
     record {
@@ -61,8 +61,8 @@ lines-preserved g c =
       sink_faults = search rules;
     }
 
-pub lines-preserved-in-Ok-Saves : goal.lines-preserved-in-Ok-Saves
-lines-preserved-in-Ok-Saves g c =
+pub lines-preserved : goal.lines-preserved
+lines-preserved g c =
     let step = c.in-Ok-Saves.ensures.goes c.lines.invariant.stands.group c.lines.invariant.stands.is_kept in
     let goes = rw (c.in-Ok-Saves.field-0-is, c.in_ok-flush_if_due.ensures.kept, c.lines.invariant.printing) at step.3 in
     let flushed = rw goes.4 at c.in_ok-flush-in-Ok-Saves.ensures.all in
@@ -153,3 +153,23 @@ pub returns-in-Ok-AtEnd-clause-sink_fault : goal.returns-in-Ok-AtEnd-clause-sink
 returns-in-Ok-AtEnd-clause-sink_fault g c e =
     let same : g.K.Sink.faults c.flush_if_due.new.sink ≡ g.K.Sink.faults c.args.sink.now = search rules in
     rw (← same) (c.finish-in-Ok-AtEnd.ensures.sink e)
+
+pub returns-in-Ok-AtBad-clause-sink_fault : goal.returns-in-Ok-AtBad-clause-sink_fault
+returns-in-Ok-AtBad-clause-sink_fault g c e =
+    let same : g.K.Sink.faults c.flush_if_due.new.sink ≡ g.K.Sink.faults c.args.sink.now = search rules in
+    rw (← same) (c.finish.ensures.sink e)
+
+pub returns-in-Err-clause-shelf_fault : goal.returns-in-Err-clause-shelf_fault
+returns-in-Err-clause-shelf_fault g c e = rw (← c.lines.invariant.shelf_faults) (c.in-Err.ensures.fault (ap Err (err_value _ _ _ refl e)))
+
+pub returns-in_err-save-in-Ok-Saves-clause-sink_fault : goal.returns-in_err-save-in-Ok-Saves-clause-sink_fault
+returns-in_err-save-in-Ok-Saves-clause-sink_fault g c e =
+    let p = err_from_is_err_and c.from_residual-in_err-save-in-Ok-Saves.result c.from_residual-in_err-save-in-Ok-Saves.ensures.1 in
+    let same : g.K.Sink.faults c.flush.new.sink ≡ g.K.Sink.faults c.args.sink.now = search rules in
+    rw (← same) (c.in_err-save-in-Ok-Saves.ensures.sink (ap Err (sym p.2 ∙ err_value _ _ _ p.1 e)))
+
+pub returns-in_err-save-in-Ok-Saves-clause-no_sink_fault : goal.returns-in_err-save-in-Ok-Saves-clause-no_sink_fault
+returns-in_err-save-in-Ok-Saves-clause-no_sink_fault g c n =
+    let p = err_from_is_err_and c.from_residual-in_err-save-in-Ok-Saves.result c.from_residual-in_err-save-in-Ok-Saves.ensures.1 in
+    let same : g.K.Sink.faults c.flush.new.sink ≡ g.K.Sink.faults c.args.sink.now = search rules in
+    c.in_err-save-in-Ok-Saves.ensures.no_sink (λ e. n (p.1 ∙ ap Err (p.2 ∙ err_value _ _ _ refl e))) ∙ same
