@@ -1,5 +1,5 @@
 -- From an index file that is read to what a check of it does.
-use Rattle.std.proofs.Common.{◌≡◌, ◌≢◌, ℕ, ◌<◌, ◌≤◌, List, Option, None, Some, ◌⊎◌, inl, inr, refl, sym, ap, ◌∙◌, arith, subst}
+use Rattle.std.proofs.Common.{◌≡◌, ◌≢◌, ℕ, ◌<◌, ◌≤◌, List, Option, None, Some, ◌⊎◌, inl, inr, refl, sym, ◌∙◌, arith, subst}
 use Rattle.std.specs.Io.KnownBytes.{Keeps}
 use Rattle.std.proofs.KnownBytes.{Keeps-refl}
 use Rattle.px_base.specs.Causes.{MayHaveRisen}
@@ -7,7 +7,7 @@ use Rattle.px_base.specs.Files.{File, content_of}
 use Rattle.graph_spec.specs.ProgramLimits.{program_limits}
 use Rattle.command_line.specs.Forms.{Form, Settings, runs, makes, checks, neither}
 use Rattle.index_api.specs.declared.kinds.Via.{Via}
-use Rattle.index_file.specs.Reads.{Outcome, Reads, holds, syntax, limit}
+use Rattle.index_file.specs.Reads.{Outcome, Reads, holds}
 use Rattle.index_file.specs.ReadSteps.{ReadsObservable, LacksFile}
 use Rattle.index_file.specs.SavedFiles.{SavedFile}
 use Rattle.pathindex_run.specs.CheckedFiles.{ChecksNamed, ChecksText, EndsCheck, ShowsFit, ShowsOutcome}
