@@ -2,11 +2,12 @@
 
 SHELL := /bin/bash
 .DEFAULT_GOAL := help
-.PHONY: help run test try bench library
+.PHONY: help run test try bench library pictures
 
 PROGRAM := crates/pathindex_main
 COUNTER := crates/example_count
 LIBRARY := crates/pathindex_c
+PICTURES := crates/pathindex_dot
 # what the kit's heap calls the C library by
 HEAP = $(dir $(realpath $(shell command -v rt)))../c/liblibc_c.a
 # How many crates `make run` takes in hand at a time: far more than there are cores, since most of them wait for a crate below. Each that is
@@ -22,6 +23,7 @@ help:
 	@echo 'make test              the gate: each proof, each edit that must be refused, each test, program and example'
 	@echo 'make try SCRIPT=FILE   run a script without proving anything, for a first look; GRAPH=FILE names a graph file'
 	@echo 'make library           prove and build bin/libpathindex.a and bin/libpathindex.so, for C, C++ and Python'
+	@echo 'make pictures          prove and build bin/pathindex_dot, which draws graphs and indexes for Graphviz'
 	@echo 'make bench             measure bin/pathindex on generated scripts and graph files, beside C++ and serdi'
 
 run:
@@ -61,6 +63,16 @@ library:
 	@(cd $(LIBRARY) && rt all check --jobs $(JOBS) && rt lib) >bin/library.log 2>&1 || { status=$$?; cat bin/library.log; exit $$status; }
 	tools/build_library.sh $(LIBRARY)/out/libpathindex_c.a $(HEAP) bin
 	@echo 'bin/libpathindex.a and bin/libpathindex.so are built; include/pathindex.h and python/pathindex.py stand over them.'
+
+pictures:
+	@$(NEEDS_RT)
+	@mkdir -p bin
+	@echo 'Proving and building bin/pathindex_dot. The first time takes about half an hour on four cores; bin/pictures.log lists the crates that are proved.'
+	@(cd $(PICTURES) && rt all check --jobs $(JOBS)) >bin/pictures.log 2>&1 || { status=$$?; cat bin/pictures.log; exit $$status; }
+	@cd $(PICTURES) && rt run -- ../../examples/foaf.nt >../../bin/foaf.dot 2>>../../bin/pictures.log \
+		|| { status=$$?; cat ../../bin/pictures.log ../../bin/foaf.dot; exit $$status; }
+	@cp $(PICTURES)/out/pathindex_dot bin/pathindex_dot
+	@echo 'bin/pathindex_dot is proved and built; bin/foaf.dot is A(1) of examples/foaf.nt.'
 
 try:
 	@$(NEEDS_RT)

@@ -1,0 +1,9 @@
+//! What `pathindex_dot` does, from the words of the command line and the bytes of a graph file to the picture and the exit status.
+#![tactic(auto)]
+
+mod drawing;
+mod status;
+mod words;
+
+pub use drawing::run;
+pub use status::Status;
