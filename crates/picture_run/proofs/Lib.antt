@@ -1,0 +1,3 @@
+pub mod ClapWords
+pub mod Numbers
+pub mod Bounds
