@@ -17,20 +17,27 @@ use Rattle.picture_run.specs.declared.settings.Settings.{Settings as SettingsSee
 abbrev IsLow : Via → Type 0
 IsLow via = (kind : Kind) (level : ℕ) → place_of via ≡ Some (kind, level) → level ≤ 8
 
+abbrev level_in : Option (Kind × ℕ) → ℕ
+level_in None = 0
+level_in (Some p) = p.1
+
+same_level : (a b : Kind) (n m : ℕ) → Some (a, n) ≡ Some (b, m) → n ≡ m
+same_level a b n m e = ap level_in e
+
 low_data : IsLow Data
 low_data kind level e = cc
 
 low_one : IsLow One
-low_one kind level e = (let z : 0 ≡ level = cc in omega (arith, z))
+low_one kind level e = (let z : 0 ≡ level = same_level _ _ 0 level e in omega (arith, z))
 
 low_fb : IsLow Fb
-low_fb kind level e = (let z : 0 ≡ level = cc in omega (arith, z))
+low_fb kind level e = (let z : 0 ≡ level = same_level _ _ 0 level e in omega (arith, z))
 
 low_a : (n : ℕ) → n ≤ 8 → IsLow (A n)
-low_a n few kind level e = (let z : n ≡ level = cc in omega (arith, z, few))
+low_a n few kind level e = (let z : n ≡ level = same_level _ _ n level e in omega (arith, z, few))
 
 low_b : (n : ℕ) → n ≤ 8 → IsLow (B n)
-low_b n few kind level e = (let z : n ≡ level = cc in omega (arith, z, few))
+low_b n few kind level e = (let z : n ≡ level = same_level _ _ n level e in omega (arith, z, few))
 
 level_small : (b n : ℕ) → level_named b ≡ Some n → n ≤ 8
 level_small b n e = search (rules, arith, e)
@@ -87,7 +94,7 @@ chosen_between true most o f = f
 chosen_between false most o f = none_between most
 
 or_between : (most own : ℕ) (text : Option (List ℕ)) → 1 ≤ own → own ≤ most → IsBetween most (number_or most own text)
-or_between most own None some few n e = (let z : own ≡ n = cc in (omega (arith, z, some), omega (arith, z, few)))
+or_between most own None some few = λ n e. (let z : own ≡ n = cc in (omega (arith, z, some), omega (arith, z, few)))
 or_between most own (Some text) some few =
     chosen_between (is_numeral text) most (number_within most (digits_value 10 text)) (number_between most (digits_value 10 text))
 

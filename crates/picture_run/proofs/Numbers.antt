@@ -11,9 +11,6 @@ use Rattle.picture_run.specs.Settings.{is_numeral, number_named, number_within}
 own : IsNumeralModel (λ ds. list_all is_ascii_digit ds ≡ true) (digits_value 10)
 own = numerals_by_value _ (search rules)
 
-within_by : (most n : ℕ) (small : Bool) → nat_le n most ≡ small → number_within most n ≡ (if nat_le 1 n && small then Some n else None)
-within_by most n small e = rw e refl
-
 -- a number above the most isn't one
 too_large : (most n : ℕ) (low : Bool) → nat_le 1 n ≡ low → nat_le n most ≡ false → number_within most n ≡ None
 too_large most n true p q = rw p (rw q refl)
@@ -33,6 +30,7 @@ pub not_read : {E : Type 0} (most : ℕ) (text : List ℕ) (r : Result ℕ E) (e
     → number_named most text ≡ None
 not_read most text r e few is parsed numeral =
     let some : 0 < length text = search (rules, arith, numeral) in
-    let not_small : ¬ ((0 < length text) × (digits_value 10 text < 2 ^ 32)) = rw is at told text r parsed numeral in
+    let ok : OkIff r ((0 < length text) × (digits_value 10 text < 2 ^ 32)) (digits_value 10 text) = told text r parsed numeral in
+    let not_small : ¬ ((0 < length text) × (digits_value 10 text < 2 ^ 32)) = rw is at ok in
     let large : nat_le (digits_value 10 text) most ≡ false = search (rules, arith, not_small, some, few) in
     named_by most text true numeral ∙ too_large most (digits_value 10 text) (nat_le 1 (digits_value 10 text)) refl large
