@@ -21,23 +21,23 @@ abbrev level_in : Option (Kind × ℕ) → ℕ
 level_in None = 0
 level_in (Some p) = p.1
 
-same_level : (a b : Kind) (n m : ℕ) → Some (a, n) ≡ Some (b, m) → n ≡ m
-same_level a b n m e = ap level_in e
+its_level : (via : Via) (kind : Kind) (level : ℕ) → place_of via ≡ Some (kind, level) → level_in (place_of via) ≡ level
+its_level via kind level e = ap level_in e
 
 low_data : IsLow Data
 low_data kind level e = cc
 
 low_one : IsLow One
-low_one kind level e = (let z : 0 ≡ level = same_level _ _ 0 level e in omega (arith, z))
+low_one kind level e = (let z : 0 ≡ level = its_level One kind level e in omega (arith, z))
 
 low_fb : IsLow Fb
-low_fb kind level e = (let z : 0 ≡ level = same_level _ _ 0 level e in omega (arith, z))
+low_fb kind level e = (let z : 0 ≡ level = its_level Fb kind level e in omega (arith, z))
 
 low_a : (n : ℕ) → n ≤ 8 → IsLow (A n)
-low_a n few kind level e = (let z : n ≡ level = same_level _ _ n level e in omega (arith, z, few))
+low_a n few kind level e = (let z : n ≡ level = its_level (A n) kind level e in omega (arith, z, few))
 
 low_b : (n : ℕ) → n ≤ 8 → IsLow (B n)
-low_b n few kind level e = (let z : n ≡ level = same_level _ _ n level e in omega (arith, z, few))
+low_b n few kind level e = (let z : n ≡ level = its_level (B n) kind level e in omega (arith, z, few))
 
 level_small : (b n : ℕ) → level_named b ≡ Some n → n ≤ 8
 level_small b n e = search (rules, arith, e)
