@@ -48,30 +48,39 @@ abbrev pub ShowsPicture : Settings → Graph → List (List ℕ) → Option (Lis
 ShowsPicture s g names old new status =
     ((text : List ℕ) × IsPicture s g names text × ShowsText text 0 old new status) ⊎ ((status ≡ 7) × Keeps old new)
 
--- The file loads to a graph, and the picture is one of it.
-pub record ShowsLoaded (s : Settings) (files : Option (List File)) (old new : Option (List ℕ)) (status : ℕ) : Type 0 where
+-- The text is a picture of the graph to which the file loads.
+pub record IsPictureOf (s : Settings) (files : Option (List File)) (text : List ℕ) : Type 0 where
   pub graph : Graph
   pub terms : Names
   pub names : List (List ℕ)
   pub loads : LoadsObservable program_limits files s.file (loaded graph)
-  -- the numbers of the terms are those that the load gave them
+  -- the terms have the numbers that the load gave them
   pub numbers : NamesObservable program_limits files s.file graph terms
-  -- the names of nodes are those of terms with their numbers
+  -- the name of a node is that of a term with its number, or empty
   pub named : AreTermNames terms.terms names
-  pub shows : ShowsPicture s graph names old new status
+  pub picture : IsPicture s graph names text
 
--- A line of the file is refused, and its number and the reason are written.
+-- the picture of the file is written, unless a write fails
+abbrev pub ShowsFile : Settings → Option (List File) → Option (List ℕ) → Option (List ℕ) → ℕ → Type 0
+ShowsFile s files old new status = (text : List ℕ) × IsPictureOf s files text × ShowsText text 0 old new status
+
+-- a line of the file is refused, and its number and the reason are written
 abbrev pub ShowsRefusal : Settings → Option (List File) → Option (List ℕ) → Option (List ℕ) → ℕ → Type 0
 ShowsRefusal s files old new status =
     ((l : ℕ) × LoadsObservable program_limits files s.file (syntax l) × ShowsText (graph_line l (codes "syntax")) 3 old new status)
     ⊎ ((l : ℕ) × LoadsObservable program_limits files s.file (limit l) × ShowsText (graph_line l (codes "limit")) 3 old new status)
 
--- What a run with these settings writes: the picture, which line is refused, or nothing.
+-- what a run with these settings writes: the picture, which line is refused, or nothing
 abbrev pub DrawsFile : Settings → Option (List File) → Option (List ℕ) → Option (List ℕ) → ℕ → Type 0
 DrawsFile s files old new status =
-    ShowsLoaded s files old new status ⊎ (ShowsRefusal s files old new status ⊎ StopsAtOnce old new status)
+    ShowsFile s files old new status ⊎ (ShowsRefusal s files old new status ⊎ StopsAtOnce old new status)
 
--- What a run writes; none of the settings are there where the words are malformed.
+-- what a run writes; there are no settings where the words are malformed
 abbrev pub Draws : Option Settings → Option (List File) → Option (List ℕ) → Option (List ℕ) → ℕ → Type 0
 Draws None files old new status = ShowsText usage_line 2 old new status
 Draws (Some s) files old new status = DrawsFile s files old new status
+
+-- there are settings, and the whole picture of the file is written
+abbrev pub HasDrawn : Option Settings → Option (List File) → Option (List ℕ) → Option (List ℕ) → Type 0
+HasDrawn None files old new = ⊥
+HasDrawn (Some s) files old new = (text : List ℕ) × IsPictureOf s files text × Appends old new text

@@ -1,15 +1,12 @@
 // From the words to the status.
-ghost use Rattle.std.specs.Prelude.{◌≡◌, ◌≢◌, ◌<◌, ◌≤◌, ◌⊎◌, None, IsSome, OnOk, map, string_bytes};
-ghost use Rattle.std.specs.Io.KnownBytes.{Keeps};
+ghost use Rattle.std.specs.Prelude.{◌≡◌, ◌≢◌, ◌<◌, ◌≤◌, None, IsSome, OnOk, map, string_bytes};
 ghost use Rattle.graph_spec.specs.ProgramLimits.{program_limits};
 ghost use Rattle.graph_load.specs.Loads.{loaded};
 ghost use Rattle.graph_load.specs.LoadSteps.{LoadsObservable, NamesObservable};
-ghost use Rattle.index_api.specs.IndexOrder.{place_of};
 ghost use Rattle.index_api.specs.declared.kinds.Via.TheVariants.{Data};
-ghost use Rattle.index_picture.specs.NamedTerms.{AreTermNames};
 ghost use Rattle.index_picture.specs.Pictures as picture;
 ghost use Rattle.pathindex_core.specs.Engines.{IsSound, by_meaning, graph_in};
-ghost use Rattle.picture_run.specs.DrawnFiles.{Draws, DrawsFile, ShowsPicture};
+ghost use Rattle.picture_run.specs.DrawnFiles.{Draws, DrawsFile, HasDrawn, ShowsPicture};
 ghost use Rattle.picture_run.specs.Settings.{AreWithin};
 ghost use Rattle.picture_run.specs.SettingsValues.{settings_value};
 ghost use Rattle.picture_run.specs.ShownTexts.{ShowsText};
@@ -286,6 +283,9 @@ pub fn run<B: PathIndex, H: Shelf, K: Sink>(
 ) -> u8
     requires closed { engine.old.opened ≡ None }
     requires sound { IsSound (by_meaning B.meaning engine.old) }
+    // Status 0: the words give settings, and the picture that they ask for is written.
+    ensures drawn { result ≡ 0 → HasDrawn (settings_of (map string_bytes words.now)) (H.files shelf.old) (K.written sink.old) (K.written sink.new) }
+    // At each status: the picture, the usage line or which line of the file is refused, a prefix of that, or nothing.
     ensures does { Draws (settings_of (map string_bytes words.now)) (H.files shelf.old) (K.written sink.old) (K.written sink.new) result }
     ensures files { H.files shelf.new ≡ H.files shelf.old }
 {

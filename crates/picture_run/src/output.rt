@@ -1,5 +1,5 @@
 // What is written, of a picture or if nothing is drawn.
-ghost use Rattle.std.specs.Prelude.{◌≡◌, ◌≢◌, ◌++◌, OnOk};
+ghost use Rattle.std.specs.Prelude.{◌≡◌, ◌++◌, OnOk};
 ghost use Rattle.picture_run.specs.ShownTexts.{ShowsText, graph_line, usage_line};
 ghost use Rattle.picture_run.specs.StatusCodes.{code_of};
 

@@ -6,6 +6,9 @@ use Rattle.picture_run.specs.SettingsValues.{settings_value}
 use Rattle.picture_run.proofs.Drawings.{draws_nothing}
 use Rattle.picture_run.proofs.drawing.run_settings.Goals as goal
 
+pub returns-in-Ok-clause-does : goal.returns-in-Ok-clause-does
+returns-in-Ok-clause-does g c = rw c.load_named.ensures.files at c.show_named.ensures.does
+
 pub returns-in-Err-Syntax-clause-does : goal.returns-in-Err-Syntax-clause-does
 returns-in-Err-Syntax-clause-does g c =
     let files = g.H.Shelf.files c.args.shelf.now in

@@ -14,5 +14,5 @@ returns-in-Err-Missing-clause-does g c = draws_nothing (settings_value c.args.se
 pub returns-in-Err-Fault-clause-does : goal.returns-in-Err-Fault-clause-does
 returns-in-Err-Fault-clause-does g c = draws_nothing (settings_value c.args.settings.now) _ (g.K.Sink.written c.args.sink.now) 5 (inl refl)
 
-pub returns-in-Err-Memory-clause-does : goal.returns-in-Err-Memory-clause-does
-returns-in-Err-Memory-clause-does g c = draws_nothing (settings_value c.args.settings.now) _ (g.K.Sink.written c.args.sink.now) 7 (inr refl)
+pub returns-clause-does : goal.returns-clause-does
+returns-clause-does g c = draws_nothing (settings_value c.args.settings.now) _ (g.K.Sink.written c.args.sink.now) 7 (inr refl)
