@@ -1,12 +1,12 @@
 -- What the words ask for is within bounds.
-use Rattle.std.proofs.Common.{◌≡◌, ◌≤◌, ◌&&◌, ℕ, Bool, List, [], ◌∷◌, Option, Some, None, true, false, if◌then◌else◌, refl, sym, ap, ◌∙◌, subst, arith, rules}
-use Rattle.std.specs.Prelude.{IfSome, nat_eq, nat_le, bytes_eq, codes, option_map}
+use Rattle.std.proofs.Common.{◌≡◌, ◌≤◌, ℕ, Bool, List, [], ◌∷◌, Option, Some, None, true, false, if◌then◌else◌, refl, sym, ap, subst, arith, rules}
+use Rattle.std.specs.Prelude.{IfSome, nat_eq, bytes_eq, codes, option_map}
 use Rattle.std.specs.Str.Parse.{digits_value}
 use Rattle.bisim_spec.specs.declared.kind.Kind.{Kind}
 use Rattle.index_api.specs.declared.kinds.Via.{Via}
 use Rattle.index_api.specs.declared.kinds.Via.TheVariants.{Data, A, One, Fb, B}
 use Rattle.index_api.specs.IndexOrder.{place_of}
-use Rattle.picture_run.specs.Settings.{AreWithin, Given, Settings, family_named, index_named, is_numeral, level_named, number_named, number_or, number_within, settings_beside, settings_with, via_named, via_or_default}
+use Rattle.picture_run.specs.Settings.{AreWithin, Given, family_named, index_named, is_numeral, level_named, number_or, number_within, settings_beside, settings_with, via_named, via_or_default}
 use Rattle.picture_run.specs.SettingsValues.{settings_value}
 use Rattle.picture_run.specs.Words.{settings_read}
 use Rattle.picture_run.specs.declared.settings.Settings.{Settings as SettingsSeen}

@@ -9,7 +9,7 @@ use Rattle.graph_spec.specs.ProgramLimits.{program_limits}
 use Rattle.bisim_spec.specs.declared.kind.Kind.{Kind}
 use Rattle.bisim_spec.specs.Partitions.{IsPartition}
 use Rattle.triple_names.specs.Names.{Names}
-use Rattle.graph_load.specs.Loads.{loaded, syntax, limit}
+use Rattle.graph_load.specs.Loads.{loaded}
 use Rattle.graph_load.specs.LoadSteps.{LoadsObservable, NamesObservable}
 use Rattle.quotient.specs.Quotients.{Quotient, view_of}
 use Rattle.index_api.specs.declared.kinds.Via.{Via}

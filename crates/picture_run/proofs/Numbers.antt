@@ -1,6 +1,6 @@
 -- A text of digits that isn't read as a number of 32 bits names no number that can be asked for.
-use Rattle.std.proofs.Common.{◌≡◌, ◌∙◌, ◌&&◌, ◌^◌, ◌<◌, ◌≤◌, ℕ, List, length, Bool, true, false, Some, None, if◌then◌else◌, rules, arith, refl}
-use Rattle.std.specs.Prelude.{Result, Ok, Err, nat_le}
+use Rattle.std.proofs.Common.{◌≡◌, ◌∙◌, ◌^◌, ◌<◌, ℕ, List, length, Bool, true, false, None, if◌then◌else◌, rules, arith, refl}
+use Rattle.std.specs.Prelude.{Result, Err, nat_le}
 use Rattle.std.specs.Char.{is_ascii_digit}
 use Rattle.std.specs.List.{list_all}
 use Rattle.std.specs.Result.{OkIff}

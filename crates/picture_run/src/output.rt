@@ -42,12 +42,7 @@ fn push_refusal(out: &mut Vec<u8>, line: u32, reason: &[u8]) -> Result<(), Memor
 }
 
 /// Writes which line of the graph file is refused, and why.
-pub(crate) fn show_refusal<K: Sink>(
-    alloc: Global,
-    line: u32,
-    reason: &str,
-    sink: &mut K,
-) -> Status
+pub(crate) fn show_refusal<K: Sink>(alloc: Global, line: u32, reason: &str, sink: &mut K) -> Status
     ensures { ShowsText (graph_line line reason.now) 3 (K.written sink.old) (K.written sink.new) (code_of result) }
 {
     let mut out = Vec::new(alloc);

@@ -1,5 +1,4 @@
-use Rattle.std.proofs.Common.{◌≡◌, ◌∙◌, map, string_bytes, sym}
-use Rattle.picture_run.specs.StatusCodes.{code_of}
+use Rattle.std.proofs.Common.{◌∙◌, map, string_bytes, sym}
 use Rattle.picture_run.specs.Words.{settings_of}
 use Rattle.picture_run.proofs.Drawings.{has_drawn}
 use Rattle.picture_run.proofs.drawing.run.Goals as goal

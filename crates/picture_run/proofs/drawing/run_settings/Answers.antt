@@ -14,18 +14,22 @@ returns-in-Err-Syntax-clause-does g c =
     let files = g.H.Shelf.files c.args.shelf.now in
     let file = c.args.settings.now.file.now in
     let line = c.in-Err-Syntax.line in
-    inr (inl (inl (line,
-    subst (λ (m : Limits). LoadsObservable m files file (syntax line)) c.program.ensures (rw c.in-Err-Syntax.field-0-is at c.in-Err-Syntax.ensures.refused),
-    c.show_refusal.ensures)))
+    inr (inl (inl (
+      line,
+      subst (λ (m : Limits). LoadsObservable m files file (syntax line)) c.program.ensures (rw c.in-Err-Syntax.field-0-is at c.in-Err-Syntax.ensures.refused),
+      c.show_refusal.ensures,
+    )))
 
 pub returns-in-Err-Limit-clause-does : goal.returns-in-Err-Limit-clause-does
 returns-in-Err-Limit-clause-does g c =
     let files = g.H.Shelf.files c.args.shelf.now in
     let file = c.args.settings.now.file.now in
     let line = c.in-Err-Limit.line in
-    inr (inl (inr (line,
-    subst (λ (m : Limits). LoadsObservable m files file (limit line)) c.program.ensures (rw c.in-Err-Limit.field-0-is at c.in-Err-Limit.ensures.refused),
-    c.show_refusal-in-Err-Limit.ensures)))
+    inr (inl (inr (
+      line,
+      subst (λ (m : Limits). LoadsObservable m files file (limit line)) c.program.ensures (rw c.in-Err-Limit.field-0-is at c.in-Err-Limit.ensures.refused),
+      c.show_refusal-in-Err-Limit.ensures,
+    )))
 
 pub returns-in-Err-Missing-clause-does : goal.returns-in-Err-Missing-clause-does
 returns-in-Err-Missing-clause-does g c = draws_nothing (settings_value c.args.settings.now) _ (g.K.Sink.written c.args.sink.now) 5 (inl refl)
