@@ -1,60 +1,34 @@
 // From the words to the status.
-ghost use Rattle.std.specs.Prelude.{◌≡◌, ◌≢◌, ◌<◌, ◌≤◌, None, IsSome, OnOk};
+ghost use Rattle.std.specs.Prelude.{◌≡◌, ◌≢◌, ◌<◌, ◌≤◌, None, IsSome, OnOk, map, string_bytes};
+ghost use Rattle.graph_spec.specs.ProgramLimits.{program_limits};
+ghost use Rattle.graph_load.specs.Loads.{loaded};
+ghost use Rattle.graph_load.specs.LoadSteps.{LoadsObservable, NamesObservable};
 ghost use Rattle.index_api.specs.declared.kinds.Via.TheVariants.{Data};
-ghost use Rattle.std.specs.Io.KnownBytes.{Appends};
 ghost use Rattle.index_picture.specs.Pictures as picture;
-ghost use Rattle.picture_run.specs.declared.status.Status.TheVariants.{Done, NoOutput};
-ghost use Rattle.pathindex_core.specs.Engines.{IsSound, by_meaning};
+ghost use Rattle.pathindex_core.specs.Engines.{IsSound, by_meaning, graph_in};
+ghost use Rattle.picture_run.specs.DrawnFiles.{Draws, DrawsFile, HasDrawn, ShowsPicture};
+ghost use Rattle.picture_run.specs.Settings.{AreWithin};
+ghost use Rattle.picture_run.specs.SettingsValues.{settings_value};
+ghost use Rattle.picture_run.specs.ShownTexts.{ShowsText};
+ghost use Rattle.picture_run.specs.StatusCodes.{code_of};
+ghost use Rattle.picture_run.specs.Words.{settings_of};
 
+use crate::output::{show_refusal, show_text, show_usage};
+use crate::settings::{Settings, read_words};
 use crate::status::Status;
-use crate::words::{Settings, read_words};
 use graph_load::{LoadError, load_named};
 use index_api::{Kind, PathIndex, Via};
 use index_picture::{NamesError, NodeNames, dot_text, lone_blocks, name_terms};
-use itoa::Buffer;
 use label_graph::Graph;
 use pathindex_core::{AskError, Engine};
-use px_base::{Limits, Memory, Shelf, Sink, Steps, put_all};
+use px_base::{Limits, Memory, Shelf, Sink, Steps};
 use quotient::Summary;
 use std::alloc::Global;
 use std::marker::Brand;
 use std::sync::ledger::{Blank, Ledger};
+use triple_names::Names;
 
-const USAGE: &[u8] =
-    b"usage: pathindex_dot GRAPH [--graph-of data|aK|one|fb|bK] [--blocks N] [--members N]\n";
-
-// Writes a text, and answers that status if it is written.
-fn show<K: Sink>(sink: &mut K, text: &[u8], status: Status) -> Status
-    requires own { status ≢ NoOutput }
-    ensures written { result ≡ status → Appends (K.written sink.old) (K.written sink.new) text.now }
-{
-    match put_all(sink, text) {
-        Ok(()) => status,
-        Err(_) => Status::NoOutput,
-    }
-}
-
-// Appends which line of the graph file is refused, and why.
-fn push_refusal(out: &mut Vec<u8>, line: u32, reason: &[u8]) -> Result<(), Memory> {
-    let mut buffer = Buffer::new();
-    out.extend_from_slice(b"graph ")?;
-    out.extend_from_slice(buffer.format(line).as_bytes())?;
-    out.push(b' ')?;
-    out.extend_from_slice(reason)?;
-    out.push(b'\n')?;
-    Ok(())
-}
-
-// Writes which line of the graph file is refused, and why.
-fn show_refusal<K: Sink>(alloc: Global, line: u32, reason: &[u8], sink: &mut K) -> Status {
-    let mut out = Vec::new(alloc);
-    match push_refusal(&mut out, line, reason) {
-        Ok(()) => show(sink, out.as_slice(), Status::FileLine),
-        Err(_) => Status::NoMemory,
-    }
-}
-
-// Writes the picture of an index.
+// Writes the picture of an index graph.
 fn show_summary<K: Sink>(
     alloc: Global,
     settings: &Settings<'_>,
@@ -63,8 +37,8 @@ fn show_summary<K: Sink>(
     names: &NodeNames,
     sink: &mut K,
 ) -> Status
-    ensures drawn { result ≡ Done → Appends (K.written sink.old) (K.written sink.new)
-        (picture.dot_text graph.now.graph summary.now names.now settings.now.blocks settings.now.members) }
+    ensures { ShowsText (picture.dot_text graph.now.graph summary.now names.now settings.now.blocks settings.now.members) 0
+        (K.written sink.old) (K.written sink.new) (code_of result) }
 {
     match dot_text(
         alloc,
@@ -74,7 +48,7 @@ fn show_summary<K: Sink>(
         settings.blocks,
         settings.members,
     ) {
-        Ok(text) => show(sink, text.as_slice(), Status::Done),
+        Ok(text) => show_text(sink, text.as_slice(), Status::Done),
         Err(_) => Status::NoMemory,
     }
 }
@@ -103,6 +77,7 @@ fn build<B: PathIndex>(
     requires level { level ≤ 8 }
     ensures sound { IsSound (by_meaning B.meaning engine.new) }
     ensures opened { OnOk result (IsSome engine.new.opened) }
+    ensures graph { OnOk result (graph_in engine.new.opened ≡ graph.graph) }
 {
     leave_out(engine, Kind::A, kind);
     leave_out(engine, Kind::One, kind);
@@ -123,8 +98,8 @@ fn ready<B: PathIndex, L: Ledger>(
     requires name { blank.name ≡ L.name }
     requires parts { blank.parts ≡ L.parts }
     requires some { 0 < blank.parts }
-    ensures open { IsSome engine.new.opened }
     ensures sound { IsSound (by_meaning B.meaning engine.new) }
+    ensures same { engine.new.opened ≡ engine.old.opened }
 {
     let mut steps = Steps::<L>::new(blank);
     engine.ready(via, &mut steps)
@@ -140,6 +115,8 @@ fn show_ready<B: PathIndex, K: Sink>(
 ) -> Status
     requires open { IsSome engine.now.opened }
     requires sound { IsSound (by_meaning B.meaning engine.now) }
+    ensures { ShowsPicture (settings_value settings.now) (graph_in engine.now.opened) names.now (K.written sink.old) (K.written sink.new)
+        (code_of result) }
 {
     match engine.look(settings.via) {
         Some(summary) => show_summary(alloc, settings, engine.graph(), summary, names, sink),
@@ -160,11 +137,10 @@ fn show_index<B: PathIndex, K: Sink>(
     requires closed { engine.old.opened ≡ None }
     requires sound { IsSound (by_meaning B.meaning engine.old) }
     requires index { settings.now.via ≢ Data }
+    requires level { place.1 ≤ 8 }
+    ensures { ShowsPicture (settings_value settings.now) graph.graph names.now (K.written sink.old) (K.written sink.new) (code_of result) }
 {
     let (kind, level) = place;
-    if level > 8 {
-        return show(sink, USAGE, Status::Usage);
-    }
     match build(engine, graph, kind, level) {
         Ok(()) => match ready::<B, Brand>(engine, settings.via, Blank::new(1)) {
             Ok(()) => show_ready(alloc, settings, engine, names, sink),
@@ -181,7 +157,10 @@ fn show_graph<K: Sink>(
     graph: &Graph,
     names: &NodeNames,
     sink: &mut K,
-) -> Status {
+) -> Status
+    requires whole { settings.now.via ≡ Data }
+    ensures { ShowsPicture (settings_value settings.now) graph.now.graph names.now (K.written sink.old) (K.written sink.new) (code_of result) }
+{
     match lone_blocks(alloc, graph) {
         Ok(summary) => show_summary(alloc, settings, graph, &summary, names, sink),
         Err(_) => Status::NoMemory,
@@ -199,6 +178,8 @@ fn show_loaded<B: PathIndex, K: Sink>(
 ) -> Status
     requires closed { engine.old.opened ≡ None }
     requires sound { IsSound (by_meaning B.meaning engine.old) }
+    requires within { AreWithin (settings_value settings.now) }
+    ensures { ShowsPicture (settings_value settings.now) graph.graph names.now (K.written sink.old) (K.written sink.new) (code_of result) }
 {
     match settings.via.place() {
         Some(place) => show_index(alloc, settings, graph, place, names, engine, sink),
@@ -206,7 +187,33 @@ fn show_loaded<B: PathIndex, K: Sink>(
     }
 }
 
-// Loads the graph and names its nodes, and writes the picture.
+// Names the nodes of a graph that is loaded, and writes the picture.
+fn show_named<B: PathIndex, H: Shelf, K: Sink>(
+    alloc: Global,
+    settings: &Settings<'_>,
+    graph: Graph,
+    terms: &Names,
+    engine: &mut Engine<B>,
+    shelf: &mut H,
+    sink: &mut K,
+) -> Status
+    requires loads { LoadsObservable program_limits (H.files shelf.old) (settings_value settings.now).file (loaded graph.graph) }
+    requires numbers { NamesObservable program_limits (H.files shelf.old) (settings_value settings.now).file graph.graph terms.now.names }
+    requires closed { engine.old.opened ≡ None }
+    requires sound { IsSound (by_meaning B.meaning engine.old) }
+    requires within { AreWithin (settings_value settings.now) }
+    ensures does { DrawsFile (settings_value settings.now) (H.files shelf.old) (K.written sink.old) (K.written sink.new) (code_of result) }
+    ensures files { H.files shelf.new ≡ H.files shelf.old }
+{
+    match name_terms(alloc, shelf, settings.file, terms, graph.created()) {
+        Ok(names) => show_loaded(alloc, settings, graph, &names, engine, sink),
+        Err(NamesError::Missing) => Status::NoFile,
+        Err(NamesError::Fault) => Status::NoFile,
+        Err(NamesError::Memory) => Status::NoMemory,
+    }
+}
+
+// Loads the graph, and writes the picture.
 fn run_settings<B: PathIndex, H: Shelf, K: Sink>(
     alloc: Global,
     settings: &Settings<'_>,
@@ -216,21 +223,37 @@ fn run_settings<B: PathIndex, H: Shelf, K: Sink>(
 ) -> Status
     requires closed { engine.old.opened ≡ None }
     requires sound { IsSound (by_meaning B.meaning engine.old) }
+    requires within { AreWithin (settings_value settings.now) }
+    ensures does { DrawsFile (settings_value settings.now) (H.files shelf.old) (K.written sink.old) (K.written sink.new) (code_of result) }
+    ensures files { H.files shelf.new ≡ H.files shelf.old }
 {
     match load_named(alloc, shelf, settings.file, &Limits::program()) {
-        Ok((graph, names)) => {
-            match name_terms(alloc, shelf, settings.file, &names, graph.created()) {
-                Ok(shown) => show_loaded(alloc, settings, graph, &shown, engine, sink),
-                Err(NamesError::Missing) => Status::NoFile,
-                Err(NamesError::Fault) => Status::NoFile,
-                Err(NamesError::Memory) => Status::NoMemory,
-            }
-        }
-        Err(LoadError::Syntax(line)) => show_refusal(alloc, line, b"syntax", sink),
-        Err(LoadError::Limit(line)) => show_refusal(alloc, line, b"limit", sink),
+        Ok((graph, terms)) => show_named(alloc, settings, graph, &terms, engine, shelf, sink),
+        Err(LoadError::Syntax(line)) => show_refusal(alloc, line, "syntax", sink),
+        Err(LoadError::Limit(line)) => show_refusal(alloc, line, "limit", sink),
         Err(LoadError::Missing) => Status::NoFile,
         Err(LoadError::Fault) => Status::NoFile,
         Err(LoadError::Memory) => Status::NoMemory,
+    }
+}
+
+// Writes the picture that the words ask for.
+fn run_words<B: PathIndex, H: Shelf, K: Sink>(
+    alloc: Global,
+    words: &[String],
+    engine: &mut Engine<B>,
+    shelf: &mut H,
+    sink: &mut K,
+) -> Status
+    requires closed { engine.old.opened ≡ None }
+    requires sound { IsSound (by_meaning B.meaning engine.old) }
+    ensures does { Draws (settings_of (map string_bytes words.now)) (H.files shelf.old) (K.written sink.old) (K.written sink.new) (code_of result) }
+    ensures files { H.files shelf.new ≡ H.files shelf.old }
+{
+    match read_words(alloc, words) {
+        Ok(Some(settings)) => run_settings(alloc, &settings, engine, shelf, sink),
+        Ok(None) => show_usage(sink),
+        Err(_) => Status::NoMemory,
     }
 }
 
@@ -247,8 +270,8 @@ fn run_settings<B: PathIndex, H: Shelf, K: Sink>(
 /// | 2 | the words are malformed, and the usage line is written |
 /// | 3 | a line of the graph file is refused, and `graph` with its number and the reason is written |
 /// | 5 | a call of the shelf failed, or the file isn't there |
-/// | 6 | a call of the sink failed |
-/// | 7 | memory runs out |
+/// | 6 | a call of the sink failed, and a prefix of that is written |
+/// | 7 | memory runs out, or the engine doesn't have the index, and nothing is written |
 ///
 /// It costs what the load, the build of the index and `dot_text` cost.
 pub fn run<B: PathIndex, H: Shelf, K: Sink>(
@@ -260,11 +283,12 @@ pub fn run<B: PathIndex, H: Shelf, K: Sink>(
 ) -> u8
     requires closed { engine.old.opened ≡ None }
     requires sound { IsSound (by_meaning B.meaning engine.old) }
+    // Status 0: the words give settings, and the picture that they ask for is written.
+    ensures drawn { result ≡ 0 → HasDrawn (settings_of (map string_bytes words.now)) (H.files shelf.old) (K.written sink.old) (K.written sink.new) }
+    // At each status: the picture, the usage line or which line of the file is refused, a prefix of that, or nothing.
+    ensures does { Draws (settings_of (map string_bytes words.now)) (H.files shelf.old) (K.written sink.old) (K.written sink.new) result }
+    ensures files { H.files shelf.new ≡ H.files shelf.old }
 {
-    let status = match read_words(alloc, words) {
-        Ok(Some(settings)) => run_settings(alloc, &settings, engine, shelf, sink),
-        Ok(None) => show(sink, USAGE, Status::Usage),
-        Err(_) => Status::NoMemory,
-    };
-    status as u8
+    let status = run_words(alloc, words, engine, shelf, sink);
+    status.code()
 }

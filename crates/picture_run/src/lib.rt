@@ -2,8 +2,11 @@
 #![tactic(auto)]
 
 mod drawing;
+mod given;
+mod output;
+mod rules;
+mod settings;
 mod status;
-mod words;
 
 pub use drawing::run;
 pub use status::Status;

@@ -1,4 +1,6 @@
 // Exit statuses.
+ghost use Rattle.std.specs.Prelude.{◌≡◌};
+ghost use Rattle.picture_run.specs.StatusCodes.{code_of};
 
 /// How a call of `run` ends: the exit status of the program, with the numbers that `pathindex` uses.
 #[derive(Clone, Copy, Debug, PartialEq, Eq)]
@@ -15,4 +17,13 @@ pub enum Status {
     NoOutput = 6,
     /// There was no memory.
     NoMemory = 7,
+}
+
+impl Status {
+    /// The number with which the program ends. O(1), no memory.
+    pub(crate) fn code(self) -> u8
+        ensures { result ≡ code_of self }
+    {
+        self as u8
+    }
 }

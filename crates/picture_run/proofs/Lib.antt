@@ -1,0 +1,4 @@
+pub mod ClapWords
+pub mod Numbers
+pub mod Bounds
+pub mod Drawings
