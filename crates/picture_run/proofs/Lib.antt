@@ -2,3 +2,4 @@ pub mod ClapWords
 pub mod Numbers
 pub mod Bounds
 pub mod Drawings
+pub mod Examples
