@@ -49,6 +49,7 @@ test:
 	@$(NEEDS_RT)
 	rt ci
 	tools/compare_examples.sh $(PROGRAM)/out/pathindex_main
+	tools/test_pictures.sh $(PICTURES)/out/pathindex_dot
 	@mkdir -p bin
 	@if command -v cc >/dev/null && command -v ld >/dev/null && command -v objcopy >/dev/null; then \
 		tools/build_archive.sh $(LIBRARY)/out/libpathindex_c.a && tools/build_library.sh $(LIBRARY)/out/libpathindex_c.a $(HEAP) bin \
