@@ -218,11 +218,6 @@ const RUNS: &[(&str, &str, u8)] = &[
     ("extents a0\n", "blocks 0\n", 0),
     ("forget fb\nnode a\n", "ok\nadded n0\n", 0),
     ("extents a0\nsave\n", "blocks 0\n", 7),
-    (
-        "forget fb\nsave\n",
-        "ok\npathindex 1\ngiven 0 k 2\nedges 0\nviews 4\nview a0\nview a1\nview a2\nview one\n",
-        0,
-    ),
 ];
 
 #[test]
