@@ -112,14 +112,14 @@ int pathindex_drop(pathindex *p, uint32_t node);
 int pathindex_relabel(pathindex *p, uint32_t node, const void *label, size_t length);
 
 /* Groups: the five calls above, between pathindex_begin and pathindex_end, only note their steps, and are PATHINDEX_OK. The end makes them as
- * one change, all or none, and says why it is refused; the cancel drops them. The nodes that the group adds get the numbers from
+ * one change, all or none, and says why it is refused; the group is ended in any case. The cancel drops them. The nodes that the group adds get the numbers from
  * pathindex_next on, so later steps can name them; *node of pathindex_node isn't written within a group. */
 int pathindex_begin(pathindex *p);
 int pathindex_end(pathindex *p);
 int pathindex_cancel(pathindex *p);
 
 /* Inserts a triple into the graph, or deletes it: with its nodes, where it is the only one that needs them. The text is a line of
- * N-Triples. To insert one that is there is PATHINDEX_OK and changes nothing; to delete one that isn't is PATHINDEX_NO_NODE. */
+ * N-Triples, without its end. To insert one that is there is PATHINDEX_OK and changes nothing; to delete one that isn't is PATHINDEX_NO_NODE. */
 int pathindex_insert(pathindex *p, const void *triple, size_t length);
 int pathindex_delete(pathindex *p, const void *triple, size_t length);
 
@@ -132,7 +132,8 @@ int pathindex_branch(pathindex *p, uint32_t via, const void *text, size_t length
 size_t pathindex_nodes(pathindex *p, size_t first, uint32_t *nodes, size_t room);
 
 /* Finds the least walk that shows why the node answers a path expression, and writes how many nodes it has to *count, which may be
- * NULL: 0 where the node doesn't answer. pathindex_walk copies the walk that was found last, as pathindex_nodes does. */
+ * NULL: 0 where the node doesn't answer, and then the walk that was found last stays. pathindex_walk copies that, as pathindex_nodes
+ * does. */
 int pathindex_why(pathindex *p, uint32_t node, const void *text, size_t length, uint64_t *count);
 size_t pathindex_walk(pathindex *p, size_t first, uint32_t *nodes, size_t room);
 

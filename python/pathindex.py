@@ -147,6 +147,11 @@ def _number(names, name):
         raise Misuse(f"{name!r} is none of {', '.join(names)}") from None
 
 
+def _is_node(number):
+    """Whether a node may have that number, which a C call would cut to 32 bits."""
+    return 0 <= number < 2**32
+
+
 def _raise(code, line=None):
     word = _library.pathindex_word(code).decode()
     error = _ERRORS.get(code, Error)(f"line {line}: {word}" if line else word)
@@ -168,6 +173,8 @@ class Pathindex:
 
     def __init__(self, triples=b"", *, k=2, one=True, fb=True, bounded=False):
         self._handle, line, text = _Handle(), c_uint64(0), _triples(triples)
+        if not 0 <= k <= 8:
+            raise Misuse(f"the highest level is 0 to 8, and not {k}")
         flags = (not one) + 2 * (not fb) + 4 * bool(bounded)
         code = _library.pathindex_open(byref(self._handle), text, len(text), k, flags, byref(line))
         if code:
@@ -193,6 +200,18 @@ class Pathindex:
         if getattr(self, "_handle", None) is not None and self._handle.held:
             self.close()
 
+    def _held(self):
+        if not self._handle.held:
+            raise Misuse("the graph is closed")
+        return byref(self._handle)
+
+    def _nodes(self, *nodes):
+        """The numbers, unless one is past those that a node may have."""
+        for node in nodes:
+            if not _is_node(node):
+                raise NoNode(f"n{node}")
+        return nodes
+
     def _call(self, name, *arguments):
         code = getattr(_library, "pathindex_" + name)(byref(self._handle), *arguments)
         if code:
@@ -208,20 +227,20 @@ class Pathindex:
 
     def link(self, start, end):
         """Adds an edge; one that is there already is left."""
-        self._call("link", start, end)
+        self._call("link", *self._nodes(start, end))
 
     def unlink(self, start, end):
         """Takes away an edge."""
-        self._call("unlink", start, end)
+        self._call("unlink", *self._nodes(start, end))
 
     def drop(self, node):
         """Takes away a node and its edges."""
-        self._call("drop", node)
+        self._call("drop", *self._nodes(node))
 
     def relabel(self, node, label):
         """Gives a node another label."""
         text = _bytes(label)
-        self._call("relabel", node, text, len(text))
+        self._call("relabel", *self._nodes(node), text, len(text))
 
     @contextlib.contextmanager
     def group(self):
@@ -237,12 +256,12 @@ class Pathindex:
 
     def insert(self, triple):
         """Inserts a triple, given as a line of N-Triples; one that is there already is left."""
-        text = _bytes(triple)
+        text = _bytes(triple).rstrip(b"\r\n")
         self._call("insert", text, len(text))
 
     def delete(self, triple):
         """Deletes a triple, given as a line of N-Triples; NoNode where it isn't there."""
-        text = _bytes(triple)
+        text = _bytes(triple).rstrip(b"\r\n")
         self._call("delete", text, len(text))
 
     # questions
@@ -270,13 +289,14 @@ class Pathindex:
     def why(self, node, text):
         """The least walk, as a list of nodes, that shows why a node answers a path expression; None where it doesn't."""
         text, count = _bytes(text), c_uint64(0)
-        self._call("why", node, text, len(text), byref(count))
+        self._call("why", *self._nodes(node), text, len(text), byref(count))
         return self._copied("walk", count.value) if count.value else None
 
     def check(self, walk, text):
         """Whether these nodes are a walk that shows that the last of them answers a path expression."""
         walk, text, shows = list(walk), _bytes(text), c_int(0)
-        if not walk:
+        self._held()
+        if not walk or not all(map(_is_node, walk)):
             return False
         nodes = (c_uint32 * len(walk))(*walk)
         self._call("check", walk[-1], nodes, len(walk), text, len(text), byref(shows))
@@ -295,7 +315,7 @@ class Pathindex:
 
     def extents(self, index):
         """The blocks of an index, each as its label and the list of its nodes."""
-        for line in self.extents_text(index).splitlines()[1:]:
+        for line in self.extents_text(index).split("\n")[1:-1]:
             label, *nodes = line.split(" ")
             yield label, [int(node[1:]) for node in nodes]
 
@@ -308,7 +328,7 @@ class Pathindex:
     def sizes(self):
         """The sizes of the graph, under 'data', and of each index that is kept, under its name."""
         sizes = {}
-        for line in self.sizes_text().splitlines():
+        for line in self.sizes_text().split("\n")[:-1]:
             words = line.split(" ")
             name = "data" if words[0] == "nodes" else words[0]
             sizes[name] = Size(int(words[-3]), int(words[-1]))
@@ -322,8 +342,9 @@ class Pathindex:
 
     def save(self, path):
         """Writes the graph and its indexes to a file, as an index file."""
+        text = self.save_text()
         with open(path, "w", encoding="utf-8", newline="\n") as file:
-            file.write(self.save_text())
+            file.write(text)
 
     def forget(self, kind):
         """Drops the indexes of a kind: 'a', 'b', 'one' or 'fb'."""
@@ -332,14 +353,14 @@ class Pathindex:
     @property
     def node_count(self):
         """How many nodes the graph has."""
-        return _library.pathindex_node_count(byref(self._handle))
+        return _library.pathindex_node_count(self._held())
 
     @property
     def edge_count(self):
         """How many edges it has."""
-        return _library.pathindex_edge_count(byref(self._handle))
+        return _library.pathindex_edge_count(self._held())
 
     @property
     def next_node(self):
         """The number that the next node gets."""
-        return _library.pathindex_next(byref(self._handle))
+        return _library.pathindex_next(self._held())

@@ -56,7 +56,7 @@ def main():
             called.append(run([path / "bench", path / "dag.nt", str(QUERIES)]))
         load, queries = min(loads)[0], min(asked)[0] - min(loads)[0]
         print(f"program: load and builds {load:.2f} s, {min(m for _, m in loads) // 1024} MB; {QUERIES} queries {queries:.2f} s")
-        print(f"library: {min(called)[2].strip()}; {min(m for _, m, _ in called) // 1024} MB")
+        print(f"library: {min(called)[2].strip()}; {min(m for _, m, _ in called) // 1024} MB, {len((path / 'dag.nt').read_bytes()) >> 20} of them the caller's copy of the file")
 
 
 main()
