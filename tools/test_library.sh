@@ -51,6 +51,14 @@ each_fails() {
         ends_well "$i" "$work/failing" "$wanted" "$status" || { cat "$work/errors"; fail "$name: allocation $i fails badly"; }
     done
     echo "ok     $name with each of $count allocations failing, under AddressSanitizer"
+    ! lacks valgrind valgrind "$name with failing allocations under valgrind" || return 0
+    cc "${strict[@]}" "library/$name" library/failing.c bin/libpathindex.a -Wl,--wrap=malloc,--wrap=realloc -o "$work/plain"
+    printf '#!/bin/sh\nexec valgrind -q --leak-check=full --show-leak-kinds=all --error-exitcode=9 %s\n' "$work/plain" >"$work/watched"
+    chmod +x "$work/watched"
+    for ((i = 1; i <= count; i += 25)); do
+        ends_well "$i" "$work/watched" "$wanted" "$status" || { cat "$work/errors"; fail "$name: allocation $i fails badly under valgrind"; }
+    done
+    echo "ok     $name with every 25th of them failing, under valgrind"
 }
 
 echo save >"$work/save.script"
