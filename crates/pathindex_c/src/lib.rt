@@ -75,7 +75,8 @@ pub unsafe extern "C" fn pathindex_c_told(at: *mut u8, which: u32) -> u64
 pub unsafe extern "C" fn pathindex_c_nodes(at: *mut u8, first: usize, nodes: &mut [u32]) -> usize
     ghost value: { Held }
     requires* { sem 𝓛 (lies_at held full_share at value) }
-    ensures* { sem 𝓛 (fex Held (λ after. fex (CopiesFound found_nodes first value after nodes.old nodes.new result) (λ _. lies_at held full_share at after))) }
+    ensures* { sem 𝓛 (fex Held (λ after. fex (CopiesFound found_nodes first value after nodes.old nodes.new result)
+        (λ _. lies_at held full_share at after))) }
 {
     let held = unsafe { &mut *(at as *mut Held) };
     held.copy_nodes(first, nodes)
@@ -86,7 +87,8 @@ pub unsafe extern "C" fn pathindex_c_nodes(at: *mut u8, first: usize, nodes: &mu
 pub unsafe extern "C" fn pathindex_c_walk(at: *mut u8, first: usize, nodes: &mut [u32]) -> usize
     ghost value: { Held }
     requires* { sem 𝓛 (lies_at held full_share at value) }
-    ensures* { sem 𝓛 (fex Held (λ after. fex (CopiesFound found_walk first value after nodes.old nodes.new result) (λ _. lies_at held full_share at after))) }
+    ensures* { sem 𝓛 (fex Held (λ after. fex (CopiesFound found_walk first value after nodes.old nodes.new result)
+        (λ _. lies_at held full_share at after))) }
 {
     let held = unsafe { &mut *(at as *mut Held) };
     held.copy_walk(first, nodes)
@@ -97,7 +99,8 @@ pub unsafe extern "C" fn pathindex_c_walk(at: *mut u8, first: usize, nodes: &mut
 pub unsafe extern "C" fn pathindex_c_text(at: *mut u8, first: usize, bytes: &mut [u8]) -> usize
     ghost value: { Held }
     requires* { sem 𝓛 (lies_at held full_share at value) }
-    ensures* { sem 𝓛 (fex Held (λ after. fex (CopiesFound found_text first value after bytes.old bytes.new result) (λ _. lies_at held full_share at after))) }
+    ensures* { sem 𝓛 (fex Held (λ after. fex (CopiesFound found_text first value after bytes.old bytes.new result)
+        (λ _. lies_at held full_share at after))) }
 {
     let held = unsafe { &mut *(at as *mut Held) };
     held.copy_text(first, bytes)
