@@ -10,3 +10,4 @@ pub mod IdleSteps
 pub mod Mapped
 pub mod Verdicts
 pub mod Judged
+pub mod LastDrops

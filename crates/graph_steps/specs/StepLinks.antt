@@ -2,7 +2,7 @@
 use Rattle.std.specs.Prelude.{◌≡◌, ◌<◌, ◌≤◌, ℕ, zero, suc, ◌+◌, ◌-◌, ◌^◌, ◌⊎◌, ◌&&◌, Bool, true, false, List, [], ◌∷◌, length, min, nat_eq, unwrap_or, if◌then◌else◌}
 use Rattle.std.specs.Map.{lookup}
 use Rattle.change_spec.specs.Steps.{Step, node, link, unlink, drop, relabel}
-use Rattle.change_spec.specs.Named.{names}
+use Rattle.change_spec.specs.Named.{names, takes_away}
 use Rattle.graph_steps.specs.NodePlaces.{node_places}
 use Rattle.graph_steps.specs.declared.chains.Links.{Links}
 use Rattle.graph_steps.specs.declared.chains.Ends.{Ends}
@@ -12,6 +12,12 @@ abbrev pub names_at : List Step → ℕ → ℕ → Bool
 names_at [] i n = false
 names_at (s ∷ ss) zero n = names n s
 names_at (s ∷ ss) (suc i) n = names_at ss i n
+
+-- the step at the place takes the node away
+abbrev pub takes_at : List Step → ℕ → ℕ → Bool
+takes_at [] i n = false
+takes_at (s ∷ ss) zero n = takes_away s n
+takes_at (s ∷ ss) (suc i) n = takes_at ss i n
 
 -- behind every place
 abbrev pub nowhere : ℕ

@@ -1,13 +1,13 @@
 // Changes as lists of steps, and verdicts on them.
-ghost use Rattle.std.specs.Prelude.{◌≡◌, ◌<◌, ◌≤◌, ◌||◌, ◌++◌, ◌∷◌, [], true, Some, IfOk, OnOk, OnErr, length, nat_eq, slice_get, take};
+ghost use Rattle.std.specs.Prelude.{◌≡◌, ◌<◌, ◌≤◌, ◌||◌, ◌++◌, ◌∷◌, [], true, Some, IfOk, OnOk, OnErr, length, nat_eq, slice_get, take, drop};
 ghost use Rattle.std.specs.List.{list_any};
-ghost use Rattle.change_spec.specs.Named.{is_named, names};
+ghost use Rattle.change_spec.specs.Named.{is_named, is_dropped, names};
 ghost use Rattle.graph_steps.specs.StepLists.{step_of, steps_of};
-ghost use Rattle.graph_steps.specs.NamedSteps.{IsNextNamed};
+ghost use Rattle.graph_steps.specs.NamedSteps.{IsNextNamed, DropsLast};
 ghost use Rattle.graph_steps.specs.NodePlaces.{place_if, node_places};
 ghost use Rattle.smallvec.specs.SmallVec.{HasRoomFor};
 
-use crate::chains::{NodeEnds, StepLinks, next_place, note, unlinked};
+use crate::chains::{NodeEnds, StepLinks, drops_from, next_place, note, unlinked};
 use crate::parts::Front;
 use indexmap::IndexMap;
 use px_base::{Memory, NodeId, Text};
@@ -175,6 +175,16 @@ impl Change {
             from,
             n,
         )
+    }
+
+    /// Whether a step from a place on takes the node away. No step may name a node that one before it takes away, as in a
+    /// change that is accepted. Expected O(1), no memory.
+    pub fn drops_from(&self, from: usize, n: NodeId) -> bool
+        requires place { from ≤ length self.now }
+        requires last { DropsLast self.now }
+        ensures { result ≡ is_dropped (drop from self.now) n }
+    {
+        drops_from(&self.ends, self.steps.as_slice(), from, n)
     }
 
     /// How many steps add a node. O(1), no memory.

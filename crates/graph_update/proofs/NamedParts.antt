@@ -1,9 +1,10 @@
 -- What steps do at a node, by those of them that name a node, instead of all steps.
-use Rattle.std.proofs.Common.{◌≡◌, ℕ, zero, suc, ◌+◌, ◌-◌, ◌≤◌, Bool, false, List, [], ◌∷◌, ◌++◌, length, take, drop, refl, sym, ap, ◌∙◌, arith, inl, inr, nat_eq}
+use Rattle.std.proofs.Common.{◌≡◌, ℕ, zero, suc, ◌+◌, ◌-◌, ◌≤◌, Bool, true, false, List, [], ◌∷◌, ◌++◌, length, take, drop, refl, sym, ap, ◌∙◌, arith, inl, inr, nat_eq, true≢false}
 use Rattle.std.specs.Prelude.{◌||◌, Option, None, Some, if◌then◌else◌}
 use Rattle.std.proofs.lemmas.List.{drop-drop, take-append-drop, drop_all}
 use Rattle.std.proofs.lemmas.List.Folds.{list_any-append}
-use Rattle.std.proofs.lemmas.Bool.{cases_Bool, or_parts}
+use Rattle.std.proofs.Math.Bool.{or-true}
+use Rattle.std.proofs.lemmas.Bool.{cases_Bool, or_cases, or_parts}
 use Rattle.bisim_spec.specs.declared.sides.Side.{Side}
 use Rattle.bisim_spec.specs.declared.sides.Side.TheVariants.{Parents, Children}
 use Rattle.change_spec.specs.Steps.{Step, node, link, unlink, drop as drop_step, relabel}
@@ -25,13 +26,18 @@ pub parted : (c : List Step) (from place : ℕ) → from ≤ place → drop from
 parted c from place ordered =
     sym (take-append-drop (place - from) (drop from c)) ∙ ap (λ r. take (place - from) (drop from c) ++ r) (to_place c from place ordered)
 
-stays_there : (c : List Step) (n from place : ℕ) → is_dropped c n ≡ false → is_dropped (take (place - from) (drop from c)) n ≡ false
-stays_there c n from place h =
-    let further = both (take from c) (drop from c) (ap (λ k. is_dropped k n) (take-append-drop from c) ∙ h) in
-    (both (take (place - from) (drop from c)) (drop (place - from) (drop from c)) (ap (λ k. is_dropped k n) (take-append-drop (place - from) (drop from c)) ∙ further.1)).0
-  where
-    both : (xs ys : List Step) → is_dropped (xs ++ ys) n ≡ false → (is_dropped xs n ≡ false) × (is_dropped ys n ≡ false)
-    both xs ys k = or_parts (is_dropped xs n) (is_dropped ys n) (sym (list_any-append (λ s. takes_away s n) xs ys) ∙ k)
+stays_both : (xs ys : List Step) (n : ℕ) → is_dropped (xs ++ ys) n ≡ false → (is_dropped xs n ≡ false) × (is_dropped ys n ≡ false)
+stays_both xs ys n k = or_parts (is_dropped xs n) (is_dropped ys n) (sym (list_any-append (λ s. takes_away s n) xs ys) ∙ k)
+
+-- a node that stays stays in front of a place and behind it
+stays_parts : (k : ℕ) (c : List Step) (n : ℕ) → is_dropped c n ≡ false → (is_dropped (take k c) n ≡ false) × (is_dropped (drop k c) n ≡ false)
+stays_parts k c n h = stays_both (take k c) (drop k c) n (ap (λ x. is_dropped x n) (take-append-drop k c) ∙ h)
+
+-- of steps from a place on
+stays_there : (c : List Step) (n start from place : ℕ) → start ≤ from → is_dropped (drop start c) n ≡ false → is_dropped (take (place - from) (drop from c)) n ≡ false
+stays_there c n start from place low h =
+    let behind = (stays_parts (from - start) (drop start c) n h).1 in
+    (stays_parts (place - from) (drop from c) n (sym (ap (λ k. is_dropped k n) (to_place c start from low)) ∙ behind)).0
 
 joined_at : (side : Side) (xs ys : List Step) (n m : ℕ) → concerned_at side (xs ++ ys) n m ≡ (concerned_at side xs n m || concerned_at side ys n m)
 joined_at Parents xs ys n m = list_any-append (concerns m n) xs ys
@@ -48,13 +54,38 @@ past_those side c n m from place ordered none = sym (
 pub neighbour_next : (side : Side) (c : List Step) (n m from place : ℕ) → is_dropped c n ≡ false → IsNextNamed m c from place
     → concerned_at side (drop place c) n m ≡ concerned_at side (drop from c) n m
 neighbour_next side c n m from place stays is =
-    past_those side c n m from place is.ordered (unnamed_at side (take (place - from) (drop from c)) n m is.between (stays_there c n from place stays))
+    past_those side c n m from place is.ordered (unnamed_at side (take (place - from) (drop from c)) n m is.between (stays_there c n 0 from place (omega arith) stays))
 
--- nor one that doesn't name the node, where its neighbour stays
-pub node_next : (side : Side) (c : List Step) (n m from place : ℕ) → is_dropped c m ≡ false → IsNextNamed n c from place
+-- nor one that doesn't name the node, where its neighbour stays from a place on
+pub node_next : (side : Side) (c : List Step) (n m start from place : ℕ) → start ≤ from → is_dropped (drop start c) m ≡ false → IsNextNamed n c from place
     → concerned_at side (drop place c) n m ≡ concerned_at side (drop from c) n m
-node_next side c n m from place stays is =
-    past_those side c n m from place is.ordered (unnamed_far side (take (place - from) (drop from c)) n m is.between (stays_there c m from place stays))
+node_next side c n m start from place low stays is =
+    past_those side c n m from place is.ordered (unnamed_far side (take (place - from) (drop from c)) n m is.between (stays_there c m start from place low stays))
+
+-- a step that takes the neighbour away concerns the edge
+pub gone_concerned : (side : Side) (c : List Step) (n m : ℕ) → is_dropped c m ≡ true → concerned_at side c n m ≡ true
+gone_concerned Parents [] n m h = absurd (true≢false (sym h))
+gone_concerned Children [] n m h = absurd (true≢false (sym h))
+gone_concerned side (s ∷ ss) n m h = first side ∙ elim (or_cases (takes_away s m) (is_dropped ss m) h) [
+  | inl here ↦ ap (λ b. b || concerned_at side ss n m) (takes_concerns side s here)
+  | inr behind ↦ ap (λ b. concerns_at side s n m || b) (gone_concerned side ss n m behind) ∙ or-true (concerns_at side s n m)
+]
+  where
+    first : (side : Side) → concerned_at side (s ∷ ss) n m ≡ (concerns_at side s n m || concerned_at side ss n m)
+    first Parents = refl
+    first Children = refl
+
+    takes_concerns : (side : Side) (s : Step) → takes_away s m ≡ true → concerns_at side s n m ≡ true
+    takes_concerns Parents (node t) k = absurd (true≢false (sym k))
+    takes_concerns Parents (link u v) k = absurd (true≢false (sym k))
+    takes_concerns Parents (unlink u v) k = absurd (true≢false (sym k))
+    takes_concerns Parents (relabel u t) k = absurd (true≢false (sym k))
+    takes_concerns Parents (drop_step u) k = ap (λ b. b || nat_eq n u) k
+    takes_concerns Children (node t) k = absurd (true≢false (sym k))
+    takes_concerns Children (link u v) k = absurd (true≢false (sym k))
+    takes_concerns Children (unlink u v) k = absurd (true≢false (sym k))
+    takes_concerns Children (relabel u t) k = absurd (true≢false (sym k))
+    takes_concerns Children (drop_step u) k = ap (λ b. nat_eq n u || b) k ∙ or-true (nat_eq n u)
 
 -- ---- the step at a place
 

@@ -1,17 +1,15 @@
 -- Steps that are planned, and how the plans are made.
-use Rattle.std.proofs.Common.{◌≡◌, ℕ, zero, suc, ◌<◌, ◌≤◌, ◌^◌, Bool, true, false, cond, List, [], ◌∷◌, ◌++◌, length, Option, Some, None, Ok, Err, refl, sym, ap, ◌∙◌, subst, arith, nat_eq, nat_lt, inl, inr, true≢false}
-use Rattle.std.specs.Prelude.{◌&&◌, ◌||◌, map, if◌then◌else◌, Result, slice_get, slice_set, option_and_then, bytes_eq}
+use Rattle.std.proofs.Common.{◌≡◌, ℕ, ◌<◌, ◌≤◌, ◌^◌, Bool, true, false, cond, List, [], ◌∷◌, length, Ok, Err, refl, sym, ap, ◌∙◌, subst, arith, nat_eq, nat_lt, inl, inr}
+use Rattle.std.specs.Prelude.{◌&&◌, ◌||◌, map, if◌then◌else◌, Result, bytes_eq}
 use Rattle.std.specs.FinSet as set
 use Rattle.std.proofs.lemmas.Bool.{cases_Bool, and_parts}
 use Rattle.std.proofs.lemmas.Bool.Decides.{eqb_tells, nat_tests}
 use Rattle.graph_spec.specs.declared.limits.Limits.{Limits}
 use Rattle.graph_spec.specs.declared.refusal.Refusal.{Refusal}
 use Rattle.graph_spec.specs.declared.refusal.Refusal.TheVariants.{NoNode, Limit}
-use Rattle.graph_spec.specs.Graphs.{Graph, IsGraph, label_of, is_live, has_edge, is_seen}
-use Rattle.graph_spec.specs.Changes.{with_node, with_edge, without_edge, with_label, node_fits, edge_fits}
-use Rattle.graph_spec.proofs.EdgeOrder.{edge_cmp_total, edge_cmp-IsAntisymmetric}
-use Rattle.bisim_spec.proofs.EdgeSets.{eq, eq_is}
-use Rattle.change_spec.specs.Steps.{Step, node, link, unlink, drop, relabel, made, without_node, labelled, is_idle, is_text, label_fits, apply_step, apply_all, after}
+use Rattle.graph_spec.specs.Graphs.{Graph, IsGraph, is_live, is_seen}
+use Rattle.graph_spec.specs.Changes.{with_node, with_edge, without_edge, node_fits, edge_fits}
+use Rattle.change_spec.specs.Steps.{Step, node, link, unlink, drop, relabel, made, without_node, labelled, is_idle, label_fits, apply_step, apply_all, after}
 use Rattle.change_spec.specs.Places.{CanMake, CanMakeAll}
 use Rattle.change_spec.proofs.StepGraphs.{stepped, graph_made, first_made}
 use Rattle.change_spec.proofs.StepPlaces.{graph_can}

@@ -8,6 +8,7 @@ use Rattle.change_spec.specs.Steps.{Step, after}
 use Rattle.change_spec.specs.Codes.{steps_code}
 use Rattle.change_spec.specs.Lost.{lost_onto, lost_from}
 use Rattle.label_graph.specs.LabelTable.{LabelTable, entries}
+use Rattle.graph_steps.specs.NamedSteps.{DropsLast}
 use Rattle.graph_steps.specs.NewChanges.{IsNew}
 use Rattle.graph_update.specs.NamedSteps.{TellsDrops}
 
@@ -42,10 +43,12 @@ pub record AreAhead (c : List Step) (g : Graph) (table : LabelTable) : Type 0 wh
 abbrev pub IsShownPast : ℕ → ℕ → ℕ → Type 0
 IsShownPast number shown more = (number < shown → more ≡ shown) × (shown ≤ number → (number ≡ shown) × (more ≡ shown + 1))
 
--- What a pending change keeps: it is new to the graph, the table has the graph's labels, the graph is sound, so many numbers will be
--- allocated, where no step may drop a node none does, and the labels to come are ahead where they are said to be.
+-- What a pending change keeps: it is new to the graph, no step of it names a node that one before it takes away, the table has the
+-- graph's labels, the graph is sound, so many numbers will be allocated, where no step may drop a node none does, and the labels to come
+-- are ahead where they are said to be.
 pub record IsPending (c : List Step) (g : Graph) (table : LabelTable) (created : ℕ) (drops ahead : Bool) : Type 0 where
   pub new : IsNew c g
+  pub last : DropsLast c
   pub seen : table.texts ≡ g.seen
   pub sound : IsGraph g
   pub created_is : created ≡ length (after c g).allocated

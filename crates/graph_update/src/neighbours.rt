@@ -4,7 +4,8 @@ ghost use Rattle.change_spec.specs.Shown.{concerns as concerning};
 ghost use Rattle.change_spec.specs.Named.{is_dropped};
 ghost use Rattle.change_spec.specs.Counts.{tally};
 ghost use Rattle.graph_steps.specs.StepLists.{step_of};
-ghost use Rattle.graph_update.specs.NamedSteps.{AreLeft, TellsDrops};
+ghost use Rattle.graph_steps.specs.NamedSteps.{IsNextNamed, DropsLast};
+ghost use Rattle.graph_update.specs.NamedSteps.{AreLeft};
 ghost use Rattle.graph_update.specs.ShownNeighbours.{concerns_at as concerns_on, concerned_at as concerned_on, other_end, linked_at, unless_later, with_first, new_at, kept_at, shown_at, is_fresh, IsFirstKept, IsFirstAdded, AreShown};
 
 use bisim_spec::Side;
@@ -71,38 +72,26 @@ fn is_concerned_by(change: &Change, i: usize, side: Side, n: NodeId, m: NodeId) 
     concerns_at(step_at(change, i), side, n, m)
 }
 
-// Whether a step from a place on concerns the edge that joins a node which stays to its neighbour. It names the neighbour.
-fn concerned_at_neighbour(change: &Change, from: usize, side: Side, n: NodeId, m: NodeId) -> bool
+// Whether a step from a place on concerns the edge that joins a node to its neighbour, where both stay; the first step that
+// names the neighbour is known. It names both, so the steps that name the one and those that name the other are gone
+// through side by side, until either end.
+fn concerned_at_either(
+    change: &Change,
+    from: usize,
+    first: usize,
+    side: Side,
+    n: NodeId,
+    m: NodeId,
+) -> bool
     requires place { from ≤ length change.now }
+    requires first { IsNextNamed m change.now from first }
     requires stays { is_dropped change.now n ≡ false }
+    requires both { is_dropped (drop from change.now) m ≡ false }
     ensures { result ≡ concerned_on side (drop from change.now) n m }
 {
     let len = step_count(change);
-    let mut i = change.next_naming(from, m);
-    while i < len {
-        if is_concerned_by(change, i, side, n, m) {
-            return true;
-        }
-        i = change.next_naming(i + 1, m);
-    }
-    false
-}
-
-// The same where the neighbour stays too. It names both, so the steps that name the one and those that name the other are
-// gone through side by side, until either end.
-fn concerned_at_either(change: &Change, from: usize, side: Side, n: NodeId, m: NodeId) -> bool
-    requires place { from ≤ length change.now }
-    requires stays { is_dropped change.now n ≡ false }
-    requires both { is_dropped change.now m ≡ false }
-    ensures { result ≡ concerned_on side (drop from change.now) n m }
-{
-    let len = step_count(change);
-    let mut j = change.next_naming(from, m);
-    // Most neighbours are named by no step.
-    if j >= len {
-        return false;
-    }
     let mut i = change.next_naming(from, n);
+    let mut j = first;
     'steps: while i < len && j < len {
         if is_concerned_by(change, i, side, n, m) {
             return true;
@@ -116,45 +105,42 @@ fn concerned_at_either(change: &Change, from: usize, side: Side, n: NodeId, m: N
     false
 }
 
-// The same of a neighbour that a step may drop, where some step may drop a node.
-fn concerned_from(
-    change: &Change,
-    drops: bool,
-    from: usize,
-    side: Side,
-    n: NodeId,
-    m: NodeId,
-) -> bool
+// The same of a neighbour that a step may drop.
+fn concerned_from(change: &Change, from: usize, side: Side, n: NodeId, m: NodeId) -> bool
     requires place { from ≤ length change.now }
     requires stays { is_dropped change.now n ≡ false }
-    requires drops { TellsDrops change.now drops }
+    requires last { DropsLast change.now }
     ensures { result ≡ concerned_on side (drop from change.now) n m }
 {
-    if drops {
-        return concerned_at_neighbour(change, from, side, n, m);
+    let first = change.next_naming(from, m);
+    // Most neighbours are named by no step.
+    if first >= step_count(change) {
+        return false;
     }
-    concerned_at_either(change, from, side, n, m)
+    if change.drops_from(from, m) {
+        return true;
+    }
+    concerned_at_either(change, from, first, side, n, m)
 }
 
 // The same of all steps.
-fn is_concerned(change: &Change, drops: bool, side: Side, n: NodeId, m: NodeId) -> bool
+fn is_concerned(change: &Change, side: Side, n: NodeId, m: NodeId) -> bool
     requires stays { is_dropped change.now n ≡ false }
-    requires drops { TellsDrops change.now drops }
+    requires last { DropsLast change.now }
     ensures { result ≡ concerned_on side change.now n m }
 {
-    concerned_from(change, drops, 0, side, n, m)
+    concerned_from(change, 0, side, n, m)
 }
 
 // The first of the neighbours that no step concerns, and those behind it.
 fn first_kept<'a>(
     items: &'a [NodeId],
     change: &Change,
-    drops: bool,
     side: Side,
     n: NodeId,
 ) -> Option<(NodeId, &'a [NodeId])>
     requires shown { AreShown change.now n items.now }
-    requires drops { TellsDrops change.now drops }
+    requires last { DropsLast change.now }
     ensures some { IfSome result (λ f. IsFirstKept side change.now n f.0 items.now f.1.now) }
     ensures rest { IfSome result (λ f. AreShown change.now n f.1.now) }
     ensures none { IfNone result (kept_at side change.now n items.now ≡ []) }
@@ -162,7 +148,7 @@ fn first_kept<'a>(
     let mut left = items;
     while let Some((m, rest)) = left.split_first() {
         left = rest;
-        if !is_concerned(change, drops, side, n, *m) {
+        if !is_concerned(change, side, n, *m) {
             return Some((*m, rest));
         }
     }
@@ -199,7 +185,6 @@ fn linked_to(step: &Step, side: Side, n: NodeId) -> Option<NodeId>
 // The neighbour, unless a step from a place on concerns its edge.
 fn unless_concerned(
     change: &Change,
-    drops: bool,
     from: usize,
     side: Side,
     n: NodeId,
@@ -207,10 +192,10 @@ fn unless_concerned(
 ) -> Option<NodeId>
     requires place { from ≤ length change.now }
     requires stays { is_dropped change.now n ≡ false }
-    requires drops { TellsDrops change.now drops }
+    requires last { DropsLast change.now }
     ensures { result ≡ unless_later side (drop from change.now) n (Some m) }
 {
-    if concerned_from(change, drops, from, side, n, m) {
+    if concerned_from(change, from, side, n, m) {
         None
     } else {
         Some(m)
@@ -218,37 +203,24 @@ fn unless_concerned(
 }
 
 // The neighbour that comes with the step at a place, behind which the next one stands.
-fn linked(
-    change: &Change,
-    drops: bool,
-    i: usize,
-    next: usize,
-    side: Side,
-    n: NodeId,
-) -> Option<NodeId>
+fn linked(change: &Change, i: usize, next: usize, side: Side, n: NodeId) -> Option<NodeId>
     requires place { i < length change.now }
     requires next { next ≡ i + 1 }
     requires stays { is_dropped change.now n ≡ false }
-    requires drops { TellsDrops change.now drops }
+    requires last { DropsLast change.now }
     ensures { new_at side (drop i change.now) n ≡ with_first result (new_at side (drop next change.now) n) }
 {
     match linked_to(step_at(change, i), side, n) {
-        Some(m) => unless_concerned(change, drops, next, side, n, m),
+        Some(m) => unless_concerned(change, next, side, n, m),
         None => None,
     }
 }
 
 // The first of the neighbours that come with the steps from a place on, and the place of the next step behind its own that
 // names the node.
-fn first_added(
-    change: &Change,
-    drops: bool,
-    side: Side,
-    n: NodeId,
-    from: usize,
-) -> Option<(NodeId, usize)>
+fn first_added(change: &Change, side: Side, n: NodeId, from: usize) -> Option<(NodeId, usize)>
     requires left { AreLeft change.now n from }
-    requires drops { TellsDrops change.now drops }
+    requires last { DropsLast change.now }
     ensures some { IfSome result (λ f. IsFirstAdded side change.now n f.0 from f.1) }
     ensures left { IfSome result (λ f. AreLeft change.now n f.1) }
     ensures none { IfNone result (new_at side (drop from change.now) n ≡ []) }
@@ -257,7 +229,7 @@ fn first_added(
     let mut i = from;
     while i < len {
         let next = change.next_naming(i + 1, n);
-        if let Some(m) = linked(change, drops, i, i + 1, side, n) {
+        if let Some(m) = linked(change, i, i + 1, side, n) {
             return Some((m, next));
         }
         i = next;
@@ -294,22 +266,16 @@ fn count_fresh(graph: &Graph, side: Side, n: NodeId, m: Option<NodeId>) -> usize
 /// How many of the neighbours that come with the steps a node hasn't yet. The steps that name the node are gone through,
 /// and for each link at it those behind that name one of both ends, as `Neighbours` says; it takes O(min(c, p)) more for
 /// each link, where its one end has c children and the other p parents.
-pub(crate) fn fresh_count(
-    graph: &Graph,
-    change: &Change,
-    drops: bool,
-    side: Side,
-    n: NodeId,
-) -> usize
+pub(crate) fn fresh_count(graph: &Graph, change: &Change, side: Side, n: NodeId) -> usize
     requires stays { is_dropped change.now n ≡ false }
-    requires drops { TellsDrops change.now drops }
+    requires last { DropsLast change.now }
     ensures { result ≡ tally (is_fresh side graph.now.graph n) (new_at side change.now n) }
 {
     let len = step_count(change);
     let mut count = 0;
     let mut i = change.next_naming(0, n);
     while i < len {
-        count += count_fresh(graph, side, n, linked(change, drops, i, i + 1, side, n));
+        count += count_fresh(graph, side, n, linked(change, i, i + 1, side, n));
         i = change.next_naming(i + 1, n);
     }
     count
@@ -318,8 +284,8 @@ pub(crate) fn fresh_count(
 /// The neighbours of a node, each once, in no stated order; seen as the list of those that are left. They are read from
 /// the graph's own lists, and then from the steps of the change. No memory. The next one is O(1) where the change neither
 /// names the node nor drops another. Else each step that names the node is gone through once, to find the links, and for
-/// each neighbour of the graph and each link it takes a look-up, and goes through the steps that name the neighbour, or
-/// those that name the node where these are fewer and no step drops a node.
+/// each neighbour of the graph and each link it takes two look-ups, and goes through the steps that name the neighbour, or
+/// those that name the node where these are fewer.
 #[derive(Drop)]
 pub struct Neighbours<'a> {
     // As they are.
@@ -329,27 +295,27 @@ pub struct Neighbours<'a> {
     // Those that the steps add from a place on, that of the next step which names the node.
     from: usize,
     change: &'a Change,
-    // Whether a step may drop a node.
-    drops: bool,
     side: Side,
     node: NodeId,
 }
 
 impl<'a> Model for Neighbours<'a> {
     ghost use Rattle.std.specs.Prelude.{List, ℕ, ◌++◌, drop};
-    ghost use Rattle.graph_update.specs.NamedSteps.{AreLeft, TellsDrops};
+    ghost use Rattle.graph_steps.specs.NamedSteps.{DropsLast};
+    ghost use Rattle.graph_update.specs.NamedSteps.{AreLeft};
     ghost use Rattle.graph_update.specs.ShownNeighbours.{kept_at, new_at, AreShown};
 
     ghost Value = { List ℕ };
 
     ghost view = { λ n. n.first.now ++ (kept_at n.side n.change.now n.node n.second.now ++ new_at n.side (drop n.from n.change.now) n.node) };
 
-    ghost invariant = { λ n. AreShown n.change.now n.node n.second.now × AreLeft n.change.now n.node n.from × TellsDrops n.change.now n.drops };
+    ghost invariant = { λ n. AreShown n.change.now n.node n.second.now × AreLeft n.change.now n.node n.from × DropsLast n.change.now };
 }
 
 impl<'a> Neighbours<'a> {
     // The nodes of a list.
     pub(crate) fn of(nodes: &'a [NodeId], change: &'a Change) -> Neighbours<'a>
+        requires { DropsLast change.now }
         ensures { result ≡ nodes.now }
     {
         Neighbours {
@@ -357,7 +323,6 @@ impl<'a> Neighbours<'a> {
             second: &[],
             from: step_count(change),
             change,
-            drops: true,
             side: Side::Parents,
             node: 0,
         }
@@ -367,12 +332,11 @@ impl<'a> Neighbours<'a> {
     pub(crate) fn shown(
         nodes: &'a [NodeId],
         change: &'a Change,
-        drops: bool,
         side: Side,
         node: NodeId,
     ) -> Neighbours<'a>
         requires stays { is_dropped change.now node ≡ false }
-        requires drops { TellsDrops change.now drops }
+        requires last { DropsLast change.now }
         ensures { result ≡ shown_at side change.now node nodes.now }
     {
         Neighbours {
@@ -380,7 +344,6 @@ impl<'a> Neighbours<'a> {
             second: nodes,
             from: change.next_naming(0, node),
             change,
-            drops,
             side,
             node,
         }
@@ -401,24 +364,12 @@ impl<'a> Iterator for Neighbours<'a> {
             self.first = rest;
             return Some(*node);
         }
-        if let Some((node, rest)) = first_kept(
-            self.second,
-            self.change,
-            self.drops,
-            self.side,
-            self.node,
-        ) {
+        if let Some((node, rest)) = first_kept(self.second, self.change, self.side, self.node) {
             self.second = rest;
             return Some(node);
         }
         self.second = &[];
-        if let Some((node, next)) = first_added(
-            self.change,
-            self.drops,
-            self.side,
-            self.node,
-            self.from,
-        ) {
+        if let Some((node, next)) = first_added(self.change, self.side, self.node, self.from) {
             self.from = next;
             return Some(node);
         }

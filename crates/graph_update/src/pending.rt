@@ -12,6 +12,7 @@ ghost use Rattle.change_spec.specs.Steps.{made, after};
 ghost use Rattle.change_spec.specs.Places.{CanMake, CanMakeAll};
 ghost use Rattle.change_spec.specs.Named.{takes_away, is_dropped};
 ghost use Rattle.graph_steps.specs.StepLists.{step_of, steps_of};
+ghost use Rattle.graph_steps.specs.NamedSteps.{DropsLast};
 ghost use Rattle.graph_steps.specs.NewChanges.{IsNew};
 ghost use Rattle.graph_update.specs.ShownNeighbours.{joins};
 ghost use Rattle.graph_update.specs.PendingChanges.{graph_after, lost_at, is_added, AreAhead, IsShownPast};
@@ -76,8 +77,7 @@ impl<'a> After<'a> {
         }
     }
 
-    /// Whether the number is that of a live node. Expected O(1); where steps take nodes away, the steps that name the node
-    /// are gone through; no memory.
+    /// Whether the number is that of a live node. Expected O(1), no memory.
     pub fn is_live(&self, n: NodeId) -> bool
         ensures { result ≡ is_live (graph_after self.now) n }
     {
@@ -180,8 +180,7 @@ impl<'a> After<'a> {
     }
 
     /// Whether an edge will lead from the first node to the second, where one does so already or doesn't. Expected O(1);
-    /// the steps that name an end are gone through, for the end where these are fewer, and where steps take nodes away for
-    /// both; no memory.
+    /// the steps that name an end are gone through, for the end where these are fewer; no memory.
     pub fn edge_after(&self, u: NodeId, v: NodeId, present: bool) -> bool
         requires { present ≡ has_edge self.now.before u v }
         ensures { result ≡ has_edge (graph_after self.now) u v }
@@ -217,8 +216,8 @@ impl<'a> After<'a> {
         if self.is_dropped(n) {
             return Neighbours::of(&[], self.change);
         }
-        steps.tick_by(fresh_count(self.graph, self.change, self.drops, side, n));
-        Neighbours::shown(items, self.change, self.drops, side, n)
+        steps.tick_by(fresh_count(self.graph, self.change, side, n));
+        Neighbours::shown(items, self.change, side, n)
     }
 
     // Whether a step adds the node.
@@ -238,9 +237,10 @@ impl<'a> After<'a> {
 
 // Whether a step takes the node away.
 fn drops(change: &Change, n: NodeId) -> bool
+    requires { DropsLast change.now }
     ensures { result ≡ is_dropped change.now n }
 {
-    change.whole().is_dropped(n)
+    change.drops_from(0, n)
 }
 
 fn either(a: bool, b: bool) -> bool

@@ -1,19 +1,13 @@
 use Rattle.std.proofs.Common.{◌+◌, arith, drop}
 use Rattle.graph_update.specs.ShownNeighbours.{concerned_at}
-use Rattle.graph_update.proofs.NamedParts.{neighbour_next, node_next, passed_there, none_there}
+use Rattle.graph_update.proofs.NamedParts.{neighbour_next, node_next, passed_there}
 use Rattle.graph_update.proofs.neighbours.concerned_at_either.Goals as goal
-
-pub returns-then-j-len : goal.returns-then-j-len
-returns-then-j-len c =
-    let len = c.step_count-len.ensures in
-    let past = c.if-j-len.true in
-    none_there c.args.side c.args.change.now c.args.n c.args.m c.next_naming-j.result (concerned_at c.args.side (drop c.args.from c.args.change.now) c.args.n c.args.m) (omega (arith, len, past))
-    (neighbour_next c.args.side c.args.change.now c.args.n c.args.m c.args.from c.next_naming-j.result c.requires.stays c.next_naming-j.ensures)
 
 pub steps-init : goal.steps-init
 steps-init c = record {
-  node = node_next c.args.side c.args.change.now c.args.n c.args.m c.args.from c.next_naming-i.result c.requires.both c.next_naming-i.ensures;
-  neighbour = neighbour_next c.args.side c.args.change.now c.args.n c.args.m c.args.from c.next_naming-j.result c.requires.stays c.next_naming-j.ensures;
+  node = node_next c.args.side c.args.change.now c.args.n c.args.m c.args.from c.args.from c.next_naming-i.result (omega arith) c.requires.both c.next_naming-i.ensures;
+  low = c.next_naming-i.ensures.ordered;
+  neighbour = neighbour_next c.args.side c.args.change.now c.args.n c.args.m c.args.from c.args.first c.requires.stays c.requires.first;
 }
 
 pub steps-preserved : goal.steps-preserved
@@ -22,12 +16,15 @@ steps-preserved c =
     let i = c.steps.i in
     let j = c.steps.j in
     let next_i = c.next_naming-i-in-steps.result in
-    let next_j = c.next_naming-j-in-steps.result in
+    let next_j = c.next_naming-j.result in
+    let low = c.steps.invariant.low in
+    let further = c.next_naming-i-in-steps.ensures.ordered in
     record {
       node = passed_there (concerned_at c.args.side (drop i whole) c.args.n c.args.m) c.is_concerned_by.result (concerned_at c.args.side (drop (i + 1) whole) c.args.n c.args.m)
           (concerned_at c.args.side (drop next_i whole) c.args.n c.args.m) (concerned_at c.args.side (drop c.args.from whole) c.args.n c.args.m) c.is_concerned_by.ensures c.if-is_concerned_by.false
-          (node_next c.args.side whole c.args.n c.args.m (i + 1) next_i c.requires.both c.next_naming-i-in-steps.ensures) c.steps.invariant.node;
+          (node_next c.args.side whole c.args.n c.args.m c.args.from (i + 1) next_i (omega (arith, low)) c.requires.both c.next_naming-i-in-steps.ensures) c.steps.invariant.node;
+      low = omega (arith, low, further);
       neighbour = passed_there (concerned_at c.args.side (drop j whole) c.args.n c.args.m) c.is_concerned_by-in-steps.result (concerned_at c.args.side (drop (j + 1) whole) c.args.n c.args.m)
           (concerned_at c.args.side (drop next_j whole) c.args.n c.args.m) (concerned_at c.args.side (drop c.args.from whole) c.args.n c.args.m) c.is_concerned_by-in-steps.ensures c.if-is_concerned_by-2.false
-          (neighbour_next c.args.side whole c.args.n c.args.m (j + 1) next_j c.requires.stays c.next_naming-j-in-steps.ensures) c.steps.invariant.neighbour;
+          (neighbour_next c.args.side whole c.args.n c.args.m (j + 1) next_j c.requires.stays c.next_naming-j.ensures) c.steps.invariant.neighbour;
     }

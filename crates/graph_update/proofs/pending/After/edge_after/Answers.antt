@@ -1,4 +1,4 @@
-use Rattle.std.proofs.Common.{◌≡◌, ◌∙◌, ap, sym, subst, true, false}
+use Rattle.std.proofs.Common.{◌≡◌, ◌∙◌, ap, sym, subst, true}
 use Rattle.std.proofs.lemmas.Bool.{and_parts}
 use Rattle.graph_spec.specs.Graphs.{IsGraph, is_live}
 use Rattle.change_spec.specs.Named.{is_dropped}

@@ -1,6 +1,6 @@
 use Rattle.std.proofs.Common.{◌∙◌, ◌≤◌, ◌^◌, ap, sym, subst}
 use Rattle.change_spec.specs.Named.{is_dropped}
-use Rattle.graph_update.proofs.PendingLaws.{new_nodes, new_graph}
+use Rattle.graph_update.proofs.PendingLaws.{new_nodes, new_graph, new_last}
 use Rattle.graph_update.proofs.pending.After.new.Goals as goal
 
 pub invariant_of-result : goal.invariant_of-result
@@ -8,6 +8,7 @@ invariant_of-result c =
     let g = c.args.graph.now.graph in
     record {
       new = c.requires.new;
+      last = new_last c.args.change.now g c.requires.new;
       seen = c.labels-labels.ensures.seen;
       sound = c.labels-labels.ensures.graph;
       created_is = c.created_after.ensures.created;
