@@ -1,7 +1,7 @@
 // The engine with an index of each kind.
-ghost use Rattle.std.specs.Prelude.{◌≡◌, [], ◌∷◌, None, IfOk};
-ghost use Rattle.index_api.specs.IndexKinds.{kinds_of};
+ghost use Rattle.std.specs.Prelude.{◌≡◌, [], ◌∷◌, IfOk};
 ghost use Rattle.pathindex_core.specs.Engines.{IsSound, by_meaning};
+ghost use Rattle.pathindex_core.specs.EngineTerms.{IsClosed, engine_kinds};
 ghost use Rattle.any_index.specs.AnyMeanings.{meaning_of};
 
 use crate::any::AnyIndex;
@@ -21,8 +21,8 @@ use std::alloc::Global;
 ///     engine.open(graph, Limits::program(), 2)?;
 pub fn full_engine(alloc: Global) -> Result<Engine<AnyIndex>, Memory>
     ensures sound { IfOk result (λ engine. IsSound (by_meaning meaning_of engine)) }
-    ensures kinds { IfOk result (λ engine. kinds_of (by_meaning meaning_of engine).boxes ≡ Kind.A ∷ Kind.One ∷ Kind.Fb ∷ Kind.B ∷ []) }
-    ensures closed { IfOk result (λ engine. engine.opened ≡ None) }
+    ensures kinds { IfOk result (λ engine. engine_kinds meaning_of engine ≡ Kind.A ∷ Kind.One ∷ Kind.Fb ∷ Kind.B ∷ []) }
+    ensures closed { IfOk result (λ engine. IsClosed engine) }
 {
     let mut indexes = Vec::new(alloc);
     indexes.push(AnyIndex::A(AkIndex::new(alloc)?))?;

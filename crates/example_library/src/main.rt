@@ -1,12 +1,13 @@
 //! A caller of the library: it loads two triples, adds an edge, and asks a path through the 1-index.
 #![tactic(auto)]
 
-ghost use Rattle.std.specs.Prelude.{◌≡◌, ◌<◌, IfSome, IsSome};
+ghost use Rattle.std.specs.Prelude.{◌≡◌, ◌<◌, IfSome};
 ghost use Rattle.graph_spec.specs.ProgramLimits.{program_limits};
 ghost use Rattle.graph_spec.specs.Shapes.{shape_of};
 ghost use Rattle.graph_load.specs.Loads.{Loads, loaded};
 ghost use Rattle.branch_query.specs.Queries.{path, AreQueryAnswers};
-ghost use Rattle.pathindex_core.specs.Engines.{graph_in, IsSound, by_meaning};
+ghost use Rattle.pathindex_core.specs.Engines.{IsSound, by_meaning};
+ghost use Rattle.pathindex_core.specs.EngineTerms.{IsOpened, engine_graph};
 ghost use Rattle.any_index.specs.AnyMeanings.{meaning_of};
 ghost use Rattle.example_library.specs.Questions.{AreAnswersOfTexts};
 
@@ -49,12 +50,12 @@ fn ask<L: Ledger>(
     expr: &PathExpr,
     blank: Blank,
 ) -> Option<Bits>
-    requires open { IsSome engine.old.opened }
+    requires open { IsOpened engine.old }
     requires sound { IsSound (by_meaning meaning_of engine.old) }
     requires name { blank.name ≡ L.name }
     requires parts { blank.parts ≡ L.parts }
     requires some { 0 < blank.parts }
-    ensures { IfSome result (λ nodes. AreQueryAnswers (shape_of (graph_in engine.old.opened)) (path expr.now) nodes.members) }
+    ensures { IfSome result (λ nodes. AreQueryAnswers (shape_of (engine_graph engine.old)) (path expr.now) nodes.members) }
 {
     let mut steps = Steps::<L>::new(blank);
     let answer = engine.path(alloc, Via::One, expr, &mut steps).ok()?;

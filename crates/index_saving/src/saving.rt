@@ -1,14 +1,14 @@
 // The graph and the indexes that are kept, as an index file.
-ghost use Rattle.std.specs.Prelude.{◌≡◌, ◌≢◌, ◌≤◌, ◌++◌, List, ℕ, map, IfOk, OnOk, IsSome, string_bytes, if◌then◌else◌};
+ghost use Rattle.std.specs.Prelude.{◌≡◌, ◌≢◌, ◌≤◌, ◌++◌, List, ℕ, IfOk, OnOk, string_bytes, if◌then◌else◌};
 ghost use Rattle.index_api.specs.declared.kinds.Via.TheVariants.{Data};
 ghost use Rattle.index_api.specs.IndexOrder.{all_indexes};
 ghost use Rattle.index_api.specs.IndexKinds.{is_kept};
 ghost use Rattle.index_file.specs.SavedIndexes as saved;
 ghost use Rattle.index_file.specs.SavedIndexes.{IsViewOf, SavesIndex, SavesIndexes, SavesFile};
 ghost use Rattle.index_file.specs.WholeFiles.{HasLabels, IsIndexFile};
-ghost use Rattle.pathindex_core.specs.Boxes.{via_view};
 ghost use Rattle.pathindex_core.specs.Calls.{KeepsAllButViews};
-ghost use Rattle.pathindex_core.specs.Engines.{IsSound, by_meaning, graph_in, kept_in};
+ghost use Rattle.pathindex_core.specs.Engines.{IsSound, by_meaning, kept_in};
+ghost use Rattle.pathindex_core.specs.EngineTerms.{HasView, IsOpened, engine_graph};
 
 use index_api::{PathIndex, Via};
 use index_file::{head, view_text};
@@ -23,7 +23,7 @@ fn count_one<B: PathIndex, L: Ledger>(
     via: Via,
     steps: &mut Steps<L>,
 ) -> Result<u32, Memory>
-    requires open { IsSome engine.old.opened }
+    requires open { IsOpened engine.old }
     requires sound { IsSound (by_meaning B.meaning engine.old) }
     requires index { via ≢ Data }
     ensures sound { IsSound (by_meaning B.meaning engine.new) }
@@ -45,7 +45,7 @@ pub fn count_kept<B: PathIndex, L: Ledger>(
     steps: &mut Steps<L>,
 ) -> Result<u32, Memory>
     requires level { k ≤ 8 }
-    requires open { IsSome engine.old.opened }
+    requires open { IsOpened engine.old }
     requires sound { IsSound (by_meaning B.meaning engine.old) }
     ensures sound { IsSound (by_meaning B.meaning engine.new) }
     ensures asked { KeepsAllButViews (by_meaning B.meaning engine.old) (by_meaning B.meaning engine.new) }
@@ -62,11 +62,11 @@ pub fn count_kept<B: PathIndex, L: Ledger>(
 
 /// The view of an index, which is there.
 fn view_there<B: PathIndex>(alloc: Global, engine: &Engine<B>, via: Via) -> Result<Text, Memory>
-    requires open { IsSome engine.now.opened }
+    requires open { IsOpened engine.now }
     requires sound { IsSound (by_meaning B.meaning engine.now) }
     requires index { via ≢ Data }
-    requires there { IsSome (via_view (map B.meaning engine.now.boxes) via) }
-    ensures { IfOk result (λ t. IsViewOf (graph_in engine.now.opened) (kept_in (by_meaning B.meaning engine.now)) via t) }
+    requires there { HasView B.meaning engine.now via }
+    ensures { IfOk result (λ t. IsViewOf (engine_graph engine.now) (kept_in (by_meaning B.meaning engine.now)) via t) }
 {
     match engine.look(via) {
         Some(summary) => view_text(alloc, via, summary, engine.graph()),
@@ -83,12 +83,12 @@ pub fn view_lines<B: PathIndex, L: Ledger>(
     via: Via,
     steps: &mut Steps<L>,
 ) -> Result<Text, Memory>
-    requires open { IsSome engine.old.opened }
+    requires open { IsOpened engine.old }
     requires sound { IsSound (by_meaning B.meaning engine.old) }
     requires index { via ≢ Data }
     ensures sound { IsSound (by_meaning B.meaning engine.new) }
     ensures asked { KeepsAllButViews (by_meaning B.meaning engine.old) (by_meaning B.meaning engine.new) }
-    ensures text { IfOk result (λ t. SavesIndex (graph_in engine.old.opened) (kept_in (by_meaning B.meaning engine.old)) via t) }
+    ensures text { IfOk result (λ t. SavesIndex (engine_graph engine.old) (kept_in (by_meaning B.meaning engine.old)) via t) }
 {
     match engine.ready(via, steps) {
         Ok(()) => view_there(alloc, engine, via),
@@ -106,12 +106,12 @@ fn push_views<B: PathIndex, L: Ledger>(
     steps: &mut Steps<L>,
 ) -> Result<(), Memory>
     requires level { k ≤ 8 }
-    requires open { IsSome engine.old.opened }
+    requires open { IsOpened engine.old }
     requires sound { IsSound (by_meaning B.meaning engine.old) }
     ensures sound { IsSound (by_meaning B.meaning engine.new) }
     ensures asked { KeepsAllButViews (by_meaning B.meaning engine.old) (by_meaning B.meaning engine.new) }
     ensures text { OnOk result ((lines : List ℕ)
-        × SavesIndexes (graph_in engine.old.opened) (kept_in (by_meaning B.meaning engine.old)) (all_indexes k) lines
+        × SavesIndexes (engine_graph engine.old) (kept_in (by_meaning B.meaning engine.old)) (all_indexes k) lines
         × (string_bytes out.new ≡ string_bytes out.old ++ lines)) }
 {
     let mut n = 0;
@@ -133,13 +133,13 @@ pub fn file_text<B: PathIndex, L: Ledger>(
     engine: &mut Engine<B>,
     steps: &mut Steps<L>,
 ) -> Result<Text, Memory>
-    requires open { IsSome engine.old.opened }
+    requires open { IsOpened engine.old }
     requires sound { IsSound (by_meaning B.meaning engine.old) }
     ensures sound { IsSound (by_meaning B.meaning engine.new) }
     ensures asked { KeepsAllButViews (by_meaning B.meaning engine.old) (by_meaning B.meaning engine.new) }
-    ensures text { IfOk result (λ t. SavesFile (graph_in engine.old.opened) (kept_in (by_meaning B.meaning engine.old)) t) }
-    ensures file { IfOk result (λ t. HasLabels (graph_in engine.old.opened)
-        → IsIndexFile (graph_in engine.old.opened) (kept_in (by_meaning B.meaning engine.old)) t) }
+    ensures text { IfOk result (λ t. SavesFile (engine_graph engine.old) (kept_in (by_meaning B.meaning engine.old)) t) }
+    ensures file { IfOk result (λ t. HasLabels (engine_graph engine.old)
+        → IsIndexFile (engine_graph engine.old) (kept_in (by_meaning B.meaning engine.old)) t) }
 {
     // Called for its contract: numbers fit 32 bits.
     let _known = engine.graph().created();

@@ -11,7 +11,7 @@ use Rattle.graph_update.specs.declared.staging.Applied.{Applied}
 use Rattle.pathindex_core.specs.declared.errors.UpdateError.{UpdateError}
 use Rattle.pathindex_core.specs.declared.errors.UpdateError.TheVariants.{Refused, Memory}
 use Rattle.pathindex_core.specs.Calls.{IsMade}
-use Rattle.pathindex_core.specs.Updates.{outcome_in}
+use Rattle.pathindex_core.specs.EngineTerms.{engine_outcome}
 use Rattle.pathindex_session.specs.Sessions.{SessionOf, engine_in, graph_of, names_of, KeepsFound}
 use Rattle.pathindex_session.specs.Edits.{IsEdited, names_with}
 use Rattle.pathindex_calls.specs.declared.replies.Reply.{Reply}
@@ -21,7 +21,7 @@ use Rattle.pathindex_calls.specs.Replies.{said, of_update, misspelled, out_of_me
 pub record Makes (c : List Step) (s t : SessionOf) (reply : Reply) : Type 0 where
   pub answer : Result Applied UpdateError
   pub reply_is : reply ≡ of_update answer
-  pub refused : (r : Refusal) → (answer ≡ Err (Refused r)) ↔ (outcome_in c s.engine.opened ≡ Err r)
+  pub refused : (r : Refusal) → (answer ≡ Err (Refused r)) ↔ (engine_outcome c s.engine ≡ Err r)
   pub made : IfOk answer (IsMade c (engine_in s) (engine_in t))
   pub same : is_new c (graph_of s) ≡ false → answer ≢ Err Memory
   pub err : OnErr answer (engine_in t ≡ engine_in s)

@@ -8,19 +8,21 @@ use Rattle.path_query.specs.Parsed.{is_past}
 use Rattle.branch_query.specs.Queries.{Query}
 use Rattle.index_api.specs.declared.kinds.Via.{Via}
 use Rattle.index_api.specs.declared.answers.How.{How}
-use Rattle.index_api.specs.IndexKinds.{is_kept, kinds_of, has_kind}
+use Rattle.index_api.specs.IndexKinds.{is_kept, has_kind}
 use Rattle.px_base.specs.declared.allocation.Memory.{Memory}
 use Rattle.extent_report.specs.PrintedLists.{ListsIndex, ListsSizes}
 use Rattle.index_file.specs.SavedIndexes.{SavesFile}
 use Rattle.index_file.specs.WholeFiles.{HasLabels, IsIndexFile}
 use Rattle.pathindex_core.specs.Engines.{kept_in}
 use Rattle.pathindex_core.specs.Calls.{IsForgotten, KeepsAllButViews}
+use Rattle.pathindex_core.specs.EngineTerms.{engine_kinds}
 use Rattle.pathindex_session.specs.declared.errors.QueryError.{QueryError}
 use Rattle.pathindex_session.specs.declared.errors.QueryError.TheVariants.{Refused}
 use Rattle.pathindex_session.specs.Sessions.{SessionOf, engine_in, graph_of, KeepsFound}
 use Rattle.pathindex_session.specs.TextAnswers.{AnswersText, ExplainsText, ChecksText}
 use Rattle.pathindex_calls.specs.declared.replies.Reply.{Reply}
 use Rattle.pathindex_calls.specs.Replies.{of_answer, of_why, of_check, of_list, of_sizes, of_forget}
+use Rattle.any_index.specs.AnyMeanings.{meaning_of}
 
 -- A text was asked, where these are the queries that it spells.
 pub record Asks (spells : Query → Type 0) (asked : List ℕ) (via : Via) (s t : SessionOf) (reply : Reply) : Type 0 where
@@ -92,7 +94,7 @@ pub record Forgets (kind : Kind) (s t : SessionOf) (reply : Reply) : Type 0 wher
   pub answer : Result ⊤ Refusal
   pub reply_is : reply ≡ of_forget answer
   pub forgotten : IsForgotten kind (engine_in s) (engine_in t)
-  pub no_index : (answer ≡ Err NoIndex) ↔ (has_kind (kinds_of (engine_in s).boxes) kind ≡ false)
+  pub no_index : (answer ≡ Err NoIndex) ↔ (has_kind (engine_kinds meaning_of s.engine) kind ≡ false)
   pub no_other : (r : Refusal) → answer ≡ Err r → r ≡ NoIndex
   pub names : t.names ≡ s.names
   pub keeps : KeepsFound s t

@@ -1,9 +1,9 @@
 //! The program `pathindex`: it carries out a script over a graph, as its words ask for.
 #![tactic(auto)]
 
-ghost use Rattle.std.specs.Prelude.{◌≡◌, [], ◌∷◌, None};
-ghost use Rattle.index_api.specs.IndexKinds.{kinds_of};
+ghost use Rattle.std.specs.Prelude.{◌≡◌, [], ◌∷◌};
 ghost use Rattle.pathindex_core.specs.Engines.{IsSound, by_meaning};
+ghost use Rattle.pathindex_core.specs.EngineTerms.{IsClosed, engine_kinds};
 
 use ak_maintain::AkIndex;
 use fb_index::FbIndex;
@@ -39,8 +39,8 @@ fn run_over<B: PathIndex>(
     words: &[String],
     engine: &mut Engine<B>,
 ) -> u8
-    requires kinds { kinds_of (by_meaning B.meaning engine.old).boxes ≡ Kind.A ∷ Kind.One ∷ Kind.Fb ∷ Kind.B ∷ [] }
-    requires closed { engine.old.opened ≡ None }
+    requires kinds { engine_kinds B.meaning engine.old ≡ Kind.A ∷ Kind.One ∷ Kind.Fb ∷ Kind.B ∷ [] }
+    requires closed { IsClosed engine.old }
     requires sound { IsSound (by_meaning B.meaning engine.old) }
 {
     let mut shelf = HostShelf::new(rt);

@@ -1,11 +1,11 @@
 // The check of an index file.
-ghost use Rattle.std.specs.Prelude.{◌≡◌, ◌≢◌, ◌⊎◌, [], None, IfOk, map};
+ghost use Rattle.std.specs.Prelude.{◌≡◌, ◌≢◌, ◌⊎◌, [], None, IfOk};
 ghost use Rattle.std.specs.Io.KnownBytes.{Keeps};
 ghost use Rattle.px_base.specs.Causes.{MayHaveRisen};
 ghost use Rattle.command_line.specs.Forms.{checks};
-ghost use Rattle.index_api.specs.IndexKinds.{kinds_of};
 ghost use Rattle.index_file.specs.Reads.{holds};
 ghost use Rattle.pathindex_core.specs.Engines.{IsSound, by_meaning};
+ghost use Rattle.pathindex_core.specs.EngineTerms.{IsClosed, engine_kinds};
 ghost use Rattle.pathindex_run.specs.CheckedFiles.{ChecksNamed, EndsCheck, FitsBut, ShowsFit, ShowsOutcome};
 ghost use Rattle.pathindex_run.specs.Headline.{ChecksWhole, HasStatus};
 ghost use Rattle.pathindex_run.specs.StatusCodes.{code_of};
@@ -80,10 +80,10 @@ fn check_file<H: Shelf, K: Sink>(alloc: Global, name: &str, shelf: &mut H, sink:
 
 /// Drops all indexes.
 fn drop_indexes<B: PathIndex>(engine: &mut Engine<B>)
-    requires closed { engine.old.opened ≡ None }
+    requires closed { IsClosed engine.old }
     requires sound { IsSound (by_meaning B.meaning engine.old) }
     ensures sound { IsSound (by_meaning B.meaning engine.new) }
-    ensures dropped { kinds_of (map B.meaning engine.new.boxes) ≡ [] }
+    ensures dropped { engine_kinds B.meaning engine.new ≡ [] }
 {
     leave_out(engine, Kind::A, true);
     leave_out(engine, Kind::One, true);
@@ -99,10 +99,10 @@ pub(crate) fn run_check<B: PathIndex, H: Shelf, K: Sink>(
     shelf: &mut H,
     sink: &mut K,
 ) -> Status
-    requires closed { engine.old.opened ≡ None }
+    requires closed { IsClosed engine.old }
     requires sound { IsSound (by_meaning B.meaning engine.old) }
     ensures sound { IsSound (by_meaning B.meaning engine.new) }
-    ensures dropped { kinds_of (map B.meaning engine.new.boxes) ≡ [] }
+    ensures dropped { engine_kinds B.meaning engine.new ≡ [] }
     ensures does { ChecksNamed (H.files shelf.old) name.now (K.written sink.old) (K.written sink.new) (code_of result) }
     ensures status { HasStatus (checks name.now) (H.files shelf.old) (H.faults shelf.old) (H.faults shelf.new) (K.faults sink.old)
         (K.faults sink.new) (code_of result) }

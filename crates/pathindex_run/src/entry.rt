@@ -6,8 +6,8 @@ ghost use Rattle.command_line.specs.Words.{form_of};
 ghost use Rattle.bisim_spec.specs.declared.kind.Kind.{Kind};
 ghost use Rattle.graph_spec.specs.Graphs.{empty_graph};
 ghost use Rattle.triple_names.specs.Names.{no_names};
-ghost use Rattle.index_api.specs.IndexKinds.{kinds_of};
 ghost use Rattle.pathindex_core.specs.Engines.{IsSound, by_meaning};
+ghost use Rattle.pathindex_core.specs.EngineTerms.{IsClosed, engine_kinds};
 ghost use Rattle.script_interpreter.specs.EngineStates.{state_of, IsOpen, IsIn};
 ghost use Rattle.script_interpreter.specs.States.{BeginsRun, left_out};
 ghost use Rattle.pathindex_run.specs.Headline.{RunsForm, HasStatus, ChecksWhole, Completes, NamesFile, NoFault, kinds_for};
@@ -68,10 +68,10 @@ pub fn run<B: PathIndex, H: Shelf, K: Sink>(
     shelf: &mut H,
     sink: &mut K,
 ) -> u8
-    requires closed { engine.old.opened ≡ None }
+    requires closed { IsClosed engine.old }
     requires sound { IsSound (by_meaning B.meaning engine.old) }
     ensures sound { IsSound (by_meaning B.meaning engine.new) }
-    ensures does { RunsForm (form_of (map string_bytes words.now)) (kinds_of (map B.meaning engine.old.boxes)) (H.files shelf.old) (K.written sink.old)
+    ensures does { RunsForm (form_of (map string_bytes words.now)) (engine_kinds B.meaning engine.old) (H.files shelf.old) (K.written sink.old)
         (K.written sink.new) result (IsIn (by_meaning B.meaning engine.new)) }
     ensures status { HasStatus (form_of (map string_bytes words.now)) (H.files shelf.old) (H.faults shelf.old) (H.faults shelf.new)
         (K.faults sink.old) (K.faults sink.new) result }
@@ -80,7 +80,7 @@ pub fn run<B: PathIndex, H: Shelf, K: Sink>(
     ensures checked { ChecksWhole (form_of (map string_bytes words.now)) (H.files shelf.old) (H.faults shelf.old) (H.faults shelf.new)
         (K.faults sink.old) (K.faults sink.new) result }
     ensures dropped { (file : List ℕ) → form_of (map string_bytes words.now) ≡ checks file → result ≢ 7
-        → kinds_of (map B.meaning engine.new.boxes) ≡ [] }
+        → engine_kinds B.meaning engine.new ≡ [] }
     ensures made { (seed : ℕ) → form_of (map string_bytes words.now) ≡ makes seed → NoFault (K.faults sink.old) (K.faults sink.new)
         → (result ≤ 1) ⊎ (result ≡ 7) }
     ensures files { H.files shelf.new ≡ H.files shelf.old }
@@ -98,10 +98,10 @@ fn run_words<B: PathIndex, H: Shelf, K: Sink>(
     shelf: &mut H,
     sink: &mut K,
 ) -> Status
-    requires closed { engine.old.opened ≡ None }
+    requires closed { IsClosed engine.old }
     requires sound { IsSound (by_meaning B.meaning engine.old) }
     ensures sound { IsSound (by_meaning B.meaning engine.new) }
-    ensures does { RunsForm (form_of (map string_bytes words.now)) (kinds_of (map B.meaning engine.old.boxes)) (H.files shelf.old) (K.written sink.old)
+    ensures does { RunsForm (form_of (map string_bytes words.now)) (engine_kinds B.meaning engine.old) (H.files shelf.old) (K.written sink.old)
         (K.written sink.new) (code_of result) (IsIn (by_meaning B.meaning engine.new)) }
     ensures status { HasStatus (form_of (map string_bytes words.now)) (H.files shelf.old) (H.faults shelf.old) (H.faults shelf.new)
         (K.faults sink.old) (K.faults sink.new) (code_of result) }
@@ -110,7 +110,7 @@ fn run_words<B: PathIndex, H: Shelf, K: Sink>(
     ensures checked { ChecksWhole (form_of (map string_bytes words.now)) (H.files shelf.old) (H.faults shelf.old) (H.faults shelf.new)
         (K.faults sink.old) (K.faults sink.new) (code_of result) }
     ensures dropped { (file : List ℕ) → form_of (map string_bytes words.now) ≡ checks file → code_of result ≢ 7
-        → kinds_of (map B.meaning engine.new.boxes) ≡ [] }
+        → engine_kinds B.meaning engine.new ≡ [] }
     ensures made { (seed : ℕ) → form_of (map string_bytes words.now) ≡ makes seed → NoFault (K.faults sink.old) (K.faults sink.new)
         → (code_of result ≤ 1) ⊎ (code_of result ≡ 7) }
     ensures files { H.files shelf.new ≡ H.files shelf.old }
@@ -143,11 +143,11 @@ fn run_settings<B: PathIndex, H: Shelf, K: Sink>(
     shelf: &mut H,
     sink: &mut K,
 ) -> Status
-    requires closed { engine.old.opened ≡ None }
+    requires closed { IsClosed engine.old }
     requires sound { IsSound (by_meaning B.meaning engine.old) }
     requires level { settings.now.k ≤ 8 }
     ensures sound { IsSound (by_meaning B.meaning engine.new) }
-    ensures does { RunsForm (runs (settings_value settings.now)) (kinds_of (map B.meaning engine.old.boxes)) (H.files shelf.old) (K.written sink.old)
+    ensures does { RunsForm (runs (settings_value settings.now)) (engine_kinds B.meaning engine.old) (H.files shelf.old) (K.written sink.old)
         (K.written sink.new) (code_of result) (IsIn (by_meaning B.meaning engine.new)) }
     ensures status { HasStatus (runs (settings_value settings.now)) (H.files shelf.old) (H.faults shelf.old) (H.faults shelf.new) (K.faults sink.old)
         (K.faults sink.new) (code_of result) }
@@ -174,11 +174,11 @@ fn run_loaded<B: PathIndex, H: Shelf, K: Sink>(
     sink: &mut K,
 ) -> Status
     requires named { option_map (λ t. t.now) settings.now.graph ≡ Some name.now }
-    requires closed { engine.old.opened ≡ None }
+    requires closed { IsClosed engine.old }
     requires sound { IsSound (by_meaning B.meaning engine.old) }
     requires level { settings.now.k ≤ 8 }
     ensures sound { IsSound (by_meaning B.meaning engine.new) }
-    ensures does { RunsForm (runs (settings_value settings.now)) (kinds_of (map B.meaning engine.old.boxes)) (H.files shelf.old) (K.written sink.old)
+    ensures does { RunsForm (runs (settings_value settings.now)) (engine_kinds B.meaning engine.old) (H.files shelf.old) (K.written sink.old)
         (K.written sink.new) (code_of result) (IsIn (by_meaning B.meaning engine.new)) }
     ensures status { HasStatus (runs (settings_value settings.now)) (H.files shelf.old) (H.faults shelf.old) (H.faults shelf.new) (K.faults sink.old)
         (K.faults sink.new) (code_of result) }
@@ -198,11 +198,11 @@ fn run_loaded<B: PathIndex, H: Shelf, K: Sink>(
 
 /// Drops the index of that kind if it is left out.
 pub(crate) fn leave_out<B: PathIndex>(engine: &mut Engine<B>, kind: Kind, is_left_out: bool)
-    requires closed { engine.old.opened ≡ None }
+    requires closed { IsClosed engine.old }
     requires sound { IsSound (by_meaning B.meaning engine.old) }
-    ensures closed { engine.new.opened ≡ None }
+    ensures closed { IsClosed engine.new }
     ensures sound { IsSound (by_meaning B.meaning engine.new) }
-    ensures kinds { kinds_of (map B.meaning engine.new.boxes) ≡ left_out is_left_out kind (kinds_of (map B.meaning engine.old.boxes)) }
+    ensures kinds { engine_kinds B.meaning engine.new ≡ left_out is_left_out kind (engine_kinds B.meaning engine.old) }
 {
     if is_left_out {
         let _ = engine.forget(kind);
@@ -220,11 +220,11 @@ fn run_script<B: PathIndex, H: Shelf, K: Sink>(
     sink: &mut K,
 ) -> Status
     requires begins { BeginsObservable (settings_value settings.now).graph (H.files shelf.old) graph.graph names.names }
-    requires closed { engine.old.opened ≡ None }
+    requires closed { IsClosed engine.old }
     requires sound { IsSound (by_meaning B.meaning engine.old) }
     requires level { settings.now.k ≤ 8 }
     ensures sound { IsSound (by_meaning B.meaning engine.new) }
-    ensures does { RunsForm (runs (settings_value settings.now)) (kinds_of (map B.meaning engine.old.boxes)) (H.files shelf.old) (K.written sink.old)
+    ensures does { RunsForm (runs (settings_value settings.now)) (engine_kinds B.meaning engine.old) (H.files shelf.old) (K.written sink.old)
         (K.written sink.new) (code_of result) (IsIn (by_meaning B.meaning engine.new)) }
     ensures status { HasStatus (runs (settings_value settings.now)) (H.files shelf.old) (H.faults shelf.old) (H.faults shelf.new) (K.faults sink.old)
         (K.faults sink.new) (code_of result) }

@@ -1,12 +1,12 @@
 // The run of the texts that are made from a seed.
-ghost use Rattle.std.specs.Prelude.{◌≡◌, ◌≢◌, Err, map, None, Some, IfOk, IfErr};
+ghost use Rattle.std.specs.Prelude.{◌≡◌, ◌≢◌, Err, Some, IfOk, IfErr};
 ghost use Rattle.graph_spec.specs.ProgramLimits.{program_limits};
 ghost use Rattle.graph_load.specs.Loads.{Loads, LoadsNamed};
 ghost use Rattle.graph_load.specs.LoadSteps.{TellsOutcome};
 ghost use Rattle.workload.specs.MadeTexts.{made_graph_text};
-ghost use Rattle.index_api.specs.IndexKinds.{kinds_of};
 ghost use Rattle.index_file.specs.WholeFiles.{HasLabels};
-ghost use Rattle.pathindex_core.specs.Engines.{IsSound, by_meaning, graph_in};
+ghost use Rattle.pathindex_core.specs.Engines.{IsSound, by_meaning};
+ghost use Rattle.pathindex_core.specs.EngineTerms.{IsClosed, engine_graph, engine_kinds};
 ghost use Rattle.script_interpreter.specs.declared.printing.Printing.TheVariants.{Brief};
 ghost use Rattle.script_interpreter.specs.EngineStates.{state_of, IsOpen, IsIn};
 ghost use Rattle.script_interpreter.specs.Rules.{rules_for};
@@ -48,10 +48,10 @@ pub(crate) fn run_made<B: PathIndex, K: Sink>(
     engine: &mut Engine<B>,
     sink: &mut K,
 ) -> Status
-    requires closed { engine.old.opened ≡ None }
+    requires closed { IsClosed engine.old }
     requires sound { IsSound (by_meaning B.meaning engine.old) }
     ensures sound { IsSound (by_meaning B.meaning engine.new) }
-    ensures does { RunsLoaded (made_task seed (kinds_of (map B.meaning engine.old.boxes))) (Some (made_graph_text seed)) (K.written sink.old)
+    ensures does { RunsLoaded (made_task seed (engine_kinds B.meaning engine.old)) (Some (made_graph_text seed)) (K.written sink.old)
         (K.written sink.new) (code_of result) (IsIn (by_meaning B.meaning engine.new)) }
     ensures status { HasSinkStatus (K.faults sink.old) (K.faults sink.new) (code_of result) }
 {
@@ -75,10 +75,10 @@ fn run_script<B: PathIndex, K: Sink>(
     sink: &mut K,
 ) -> Status
     requires labels { HasLabels graph.graph }
-    requires closed { engine.old.opened ≡ None }
+    requires closed { IsClosed engine.old }
     requires sound { IsSound (by_meaning B.meaning engine.old) }
     ensures sound { IsSound (by_meaning B.meaning engine.new) }
-    ensures does { RunsFrom (made_task seed (kinds_of (map B.meaning engine.old.boxes))) graph.graph names.names (K.written sink.old) (K.written sink.new)
+    ensures does { RunsFrom (made_task seed (engine_kinds B.meaning engine.old)) graph.graph names.names (K.written sink.old) (K.written sink.new)
         (code_of result) (IsIn (by_meaning B.meaning engine.new)) }
     ensures status { HasSinkStatus (K.faults sink.old) (K.faults sink.new) (code_of result) }
 {
@@ -99,10 +99,10 @@ fn run_text<B: PathIndex, K: Sink>(
     sink: &mut K,
 ) -> Status
     requires labels { HasLabels graph.graph }
-    requires closed { engine.old.opened ≡ None }
+    requires closed { IsClosed engine.old }
     requires sound { IsSound (by_meaning B.meaning engine.old) }
     ensures sound { IsSound (by_meaning B.meaning engine.new) }
-    ensures does { RunsFrom (text_task script.now (kinds_of (map B.meaning engine.old.boxes))) graph.graph names.names (K.written sink.old)
+    ensures does { RunsFrom (text_task script.now (engine_kinds B.meaning engine.old)) graph.graph names.names (K.written sink.old)
         (K.written sink.new) (code_of result) (IsIn (by_meaning B.meaning engine.new)) }
     ensures status { HasSinkStatus (K.faults sink.old) (K.faults sink.new) (code_of result) }
 {
@@ -120,7 +120,7 @@ fn run_open<B: PathIndex, K: Sink>(
     names: Names,
     sink: &mut K,
 ) -> Status
-    requires labels { HasLabels (graph_in engine.old.opened) }
+    requires labels { HasLabels (engine_graph engine.old) }
     requires ready { IsOpen (by_meaning B.meaning engine.old) }
     ensures sound { IsSound (by_meaning B.meaning engine.new) }
     ensures does { RunsScript (rules_for Brief) (state_of B.meaning engine.old names.names) (Some script.now) (K.written sink.old)

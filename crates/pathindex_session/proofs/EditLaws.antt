@@ -24,12 +24,12 @@ pub edited : (steps : Option (List Step)) (c : List Step) (e f : EngineSeen) (re
 edited steps c e f (Ok answer) is refused made err = record {
   made = (c, is, made);
   refused = λ r x. absurd (cc);
-  kept = λ r x a y. (let z = (refused r).1 (subst (λ s. outcome_of e.opened s ≡ Err r) is x) in cc);
+  kept = λ r x a y. (let z = (refused r).1 (subst (λ s. outcome_of e s ≡ Err r) is x) in cc);
   err = tt;
 }
 edited steps c e f (Err error) is refused made err = record {
   made = tt;
-  refused = λ r x. subst (λ s. outcome_of e.opened s ≡ Err r) (sym is) ((refused r).0 x);
+  refused = λ r x. subst (λ s. outcome_of e s ≡ Err r) (sym is) ((refused r).0 x);
   kept = λ r x a y. cc;
   err = err;
 }
@@ -38,7 +38,7 @@ edited steps c e f (Err error) is refused made err = record {
 pub not_there : (steps : Option (List Step)) (e f : EngineSeen) → steps ≡ None → f ≡ e → IsEdited steps e f (Err (Refused NoNode))
 not_there steps e f is same = record {
   made = tt;
-  refused = λ r x. subst (λ s. outcome_of e.opened s ≡ Err r) (sym is) (cc);
+  refused = λ r x. subst (λ s. outcome_of e s ≡ Err r) (sym is) (cc);
   kept = λ r x a y. cc;
   err = same;
 }

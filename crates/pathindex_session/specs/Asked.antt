@@ -11,13 +11,14 @@ use Rattle.path_query.specs.declared.expr.ExprError.{ExprError}
 use Rattle.path_query.specs.declared.expr.ExprError.TheVariants as text_error
 use Rattle.pathindex_session.specs.declared.errors.QueryError.{QueryError}
 use Rattle.pathindex_session.specs.declared.errors.QueryError.TheVariants.{Refused, Syntax, Memory}
-use Rattle.pathindex_core.specs.Engines.{EngineSeen, graph_in, kept_in}
+use Rattle.pathindex_core.specs.Engines.{EngineSeen, kept_in}
 use Rattle.pathindex_core.specs.QueryAnswers.{IsAnswered, NamesMissingIndex}
+use Rattle.pathindex_core.specs.EngineTerms.{seen_graph}
 
 -- what an engine answers to a query, whatever it read
 pub record IsAsked (e : EngineSeen) (via : Via) (q : Query) (result : Result (Vec ℕ Global × How) AskError) : Type 0 where
   -- the answers are those of the graph, found in the graph or in the index
-  pub answered : IfOk result (λ r. IsAnswered (graph_in e.opened) (kept_in e) via q r.1 r.0.items)
+  pub answered : IfOk result (λ r. IsAnswered (seen_graph e) (kept_in e) via q r.1 r.0.items)
   -- `NoIndex` comes exactly where the index isn't kept
   pub no_index : (result ≡ Err ask_error.NoIndex) ↔ NamesMissingIndex (kept_in e) via
 

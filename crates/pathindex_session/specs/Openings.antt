@@ -1,13 +1,13 @@
 -- The engine of a session that is opened with a text.
-use Rattle.std.specs.Prelude.{ℕ, ⊤, List, [], ◌∷◌, ◌++◌, Some, ◌≡◌, if◌then◌else◌}
+use Rattle.std.specs.Prelude.{ℕ, ⊤, List, [], ◌∷◌, ◌++◌, ◌≡◌, if◌then◌else◌}
 use Rattle.graph_spec.specs.ProgramLimits.{program_limits}
 use Rattle.graph_spec.specs.Graphs.{Graph}
 use Rattle.bisim_spec.specs.declared.kind.Kind.{Kind}
 use Rattle.bisim_spec.specs.declared.kind.Kind.TheVariants.{A, One, Fb, B}
 use Rattle.triple_names.specs.Names.{Names}
 use Rattle.graph_load.specs.Loads.{Loads, LoadsNamed, loaded, syntax, limit}
-use Rattle.index_api.specs.IndexKinds.{kinds_of}
-use Rattle.pathindex_core.specs.Engines.{EngineOf, by_meaning}
+use Rattle.pathindex_core.specs.Engines.{EngineOf}
+use Rattle.pathindex_core.specs.EngineTerms.{IsOpenedWith, engine_kinds}
 use Rattle.any_index.specs.declared.any.AnyIndex.{AnyIndex}
 use Rattle.any_index.specs.AnyMeanings.{meaning_of}
 use Rattle.pathindex_session.specs.declared.errors.OpenError.{OpenError}
@@ -20,8 +20,8 @@ kinds_kept kept = A ∷ (if kept.one then One ∷ [] else []) ++ (if kept.fb the
 
 -- the engine has this graph and keeps these indexes
 pub record OpensGraph (g : Graph) (kept : Indexes) (e : EngineOf AnyIndex) : Type 0 where
-  pub opened : e.opened ≡ Some (record { graph = g; limits = program_limits; k = kept.k })
-  pub kinds : kinds_of (by_meaning meaning_of e).boxes ≡ kinds_kept kept
+  pub opened : IsOpenedWith e g program_limits kept.k
+  pub kinds : engine_kinds meaning_of e ≡ kinds_kept kept
 
 -- the same with the graph of the triples in a text, and with the numbers that the load gave its terms and triples
 pub record OpensText (text : List ℕ) (kept : Indexes) (e : EngineOf AnyIndex) (n : Names) : Type 0 where

@@ -1,10 +1,11 @@
 -- A session as it is seen.
-use Rattle.std.specs.Prelude.{ℕ, List, IsSome, refl, ◌≡◌}
+use Rattle.std.specs.Prelude.{ℕ, List, refl, ◌≡◌}
 use Rattle.std.specs.Coded.{Coded, code_by, coded×, coded_list, coded_ℕ}
 use Rattle.graph_spec.specs.Graphs.{Graph}
 use Rattle.triple_names.specs.Names.{Names, ReservedNames}
 use Rattle.triple_names.specs.NameCodes.{names_code}
-use Rattle.pathindex_core.specs.Engines.{EngineOf, EngineSeen, engine_code, by_meaning, graph_in, IsSound}
+use Rattle.pathindex_core.specs.Engines.{EngineOf, EngineSeen, engine_code, by_meaning, IsSound}
+use Rattle.pathindex_core.specs.EngineTerms.{IsOpened, engine_graph}
 use Rattle.any_index.specs.declared.any.AnyIndex.{AnyIndex}
 use Rattle.any_index.specs.contracts.any.AnyIndex.{the_row as index_row}
 use Rattle.any_index.specs.AnyMeanings.{meaning_of}
@@ -34,7 +35,7 @@ engine_in s = by_meaning meaning_of s.engine
 
 -- the graph of a session
 abbrev pub graph_of : SessionOf → Graph
-graph_of s = graph_in s.engine.opened
+graph_of s = engine_graph s.engine
 
 -- the numbers of its terms and triples
 abbrev pub names_of : SessionOf → Names
@@ -42,7 +43,7 @@ names_of s = s.names.names
 
 -- What holds of a session's engine between two calls.
 pub record IsReady (e : EngineOf AnyIndex) : Type 0 where
-  pub is_open : IsSome e.opened
+  pub is_open : IsOpened e
   pub sound : IsSound (by_meaning meaning_of e)
 
 -- what was found last stays

@@ -10,8 +10,9 @@ ghost use Rattle.any_index.specs.AnyMeanings.{meaning_of};
 ghost use Rattle.index_file.specs.SavedIndexes.{SavesFile};
 ghost use Rattle.index_file.specs.WholeFiles.{HasLabels, IsIndexFile};
 ghost use Rattle.extent_report.specs.PrintedLists.{ListsIndex, ListsSizes};
-ghost use Rattle.pathindex_core.specs.Engines.{by_meaning, graph_in, kept_in};
+ghost use Rattle.pathindex_core.specs.Engines.{by_meaning, kept_in};
 ghost use Rattle.pathindex_core.specs.Calls.{KeepsAllButViews};
+ghost use Rattle.pathindex_core.specs.EngineTerms.{engine_graph};
 ghost use Rattle.walk_spec.specs.Shown.{IsLeast};
 ghost use Rattle.pathindex_session.specs.Sessions.{IsReady};
 ghost use Rattle.pathindex_session.specs.Asked.{IsAsked};
@@ -71,7 +72,7 @@ pub(crate) fn list<L: Ledger>(
     requires some { 0 < blank.parts }
     ensures ready { IsReady engine.new }
     ensures keeps { KeepsAllButViews (by_meaning meaning_of engine.old) (by_meaning meaning_of engine.new) }
-    ensures listed { IfOk result (ListsIndex (graph_in engine.old.opened) (kept_in (by_meaning meaning_of engine.old)) via) }
+    ensures listed { IfOk result (ListsIndex (engine_graph engine.old) (kept_in (by_meaning meaning_of engine.old)) via) }
     ensures no_index { (result ≡ Err AskError.NoIndex) ↔ (is_kept (kept_in (by_meaning meaning_of engine.old)) via ≡ false) }
 {
     let mut steps = Steps::<L>::new(blank);
@@ -90,7 +91,7 @@ pub(crate) fn measure<L: Ledger>(
     requires some { 0 < blank.parts }
     ensures ready { IsReady engine.new }
     ensures keeps { KeepsAllButViews (by_meaning meaning_of engine.old) (by_meaning meaning_of engine.new) }
-    ensures measured { IfOk result (ListsSizes (graph_in engine.old.opened) (kept_in (by_meaning meaning_of engine.old))) }
+    ensures measured { IfOk result (ListsSizes (engine_graph engine.old) (kept_in (by_meaning meaning_of engine.old))) }
 {
     let mut steps = Steps::<L>::new(blank);
     engine.sizes(alloc, &mut steps)
@@ -108,9 +109,9 @@ pub(crate) fn save<L: Ledger>(
     requires some { 0 < blank.parts }
     ensures ready { IsReady engine.new }
     ensures keeps { KeepsAllButViews (by_meaning meaning_of engine.old) (by_meaning meaning_of engine.new) }
-    ensures saved { IfOk result (SavesFile (graph_in engine.old.opened) (kept_in (by_meaning meaning_of engine.old))) }
-    ensures whole { IfOk result (λ t. HasLabels (graph_in engine.old.opened)
-        → IsIndexFile (graph_in engine.old.opened) (kept_in (by_meaning meaning_of engine.old)) t) }
+    ensures saved { IfOk result (SavesFile (engine_graph engine.old) (kept_in (by_meaning meaning_of engine.old))) }
+    ensures whole { IfOk result (λ t. HasLabels (engine_graph engine.old)
+        → IsIndexFile (engine_graph engine.old) (kept_in (by_meaning meaning_of engine.old)) t) }
 {
     let mut steps = Steps::<L>::new(blank);
     file_text(alloc, engine, &mut steps)

@@ -5,7 +5,8 @@ ghost use Rattle.triple_names.specs.Represented.{is_among};
 ghost use Rattle.triple_names.specs.TripleChanges.{insert_steps, placed_in};
 ghost use Rattle.triple_names.specs.TripleChanges as changes;
 ghost use Rattle.any_index.specs.AnyMeanings.{meaning_of};
-ghost use Rattle.pathindex_core.specs.Engines.{by_meaning, graph_in};
+ghost use Rattle.pathindex_core.specs.Engines.{by_meaning};
+ghost use Rattle.pathindex_core.specs.EngineTerms.{engine_graph};
 ghost use Rattle.pathindex_session.specs.Sessions.{IsReady};
 ghost use Rattle.pathindex_session.specs.Edits.{IsEdited, names_with};
 
@@ -25,8 +26,8 @@ fn prepare(
     triple: &Triple,
 ) -> Result<(Change, Placed), Memory>
     requires ready { IsReady engine.now }
-    ensures change { IfOk result (λ r. r.0 ≡ insert_steps names.old.names (graph_in engine.now.opened) triple.now) }
-    ensures placed { IfOk result (λ r. r.1 ≡ placed_in names.old.names (graph_in engine.now.opened) triple.now) }
+    ensures change { IfOk result (λ r. r.0 ≡ insert_steps names.old.names (engine_graph engine.now) triple.now) }
+    ensures placed { IfOk result (λ r. r.1 ≡ placed_in names.old.names (engine_graph engine.now) triple.now) }
     ensures reserved { OnOk result (IsTrue (is_among names.new.reserved triple.now)) }
     ensures names { AreSameNames names.new.names names.old.names }
 {
@@ -44,9 +45,9 @@ pub(crate) fn insert(
 ) -> Result<Applied, UpdateError>
     requires ready { IsReady engine.old }
     ensures ready { IsReady engine.new }
-    ensures edited { IsEdited (Some (insert_steps names.old.names (graph_in engine.old.opened) triple))
+    ensures edited { IsEdited (Some (insert_steps names.old.names (engine_graph engine.old) triple))
         (by_meaning meaning_of engine.old) (by_meaning meaning_of engine.new) result }
-    ensures names { OnOk result (AreSameNames names.new.names (names_with names.old.names (graph_in engine.old.opened) triple)) }
+    ensures names { OnOk result (AreSameNames names.new.names (names_with names.old.names (engine_graph engine.old) triple)) }
     ensures err { OnErr result (AreSameNames names.new.names names.old.names) }
 {
     match prepare(alloc, engine, names, &triple) {
@@ -70,7 +71,7 @@ pub(crate) fn delete(
 ) -> Result<Applied, UpdateError>
     requires ready { IsReady engine.old }
     ensures ready { IsReady engine.new }
-    ensures edited { IsEdited (changes.delete_change names.now.names (graph_in engine.old.opened) triple.now)
+    ensures edited { IsEdited (changes.delete_change names.now.names (engine_graph engine.old) triple.now)
         (by_meaning meaning_of engine.old) (by_meaning meaning_of engine.new) result }
 {
     match delete_change(alloc, names, engine.graph(), triple) {

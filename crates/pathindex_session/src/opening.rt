@@ -1,8 +1,8 @@
 // Opening a session.
-ghost use Rattle.std.specs.Prelude.{◌≡◌, ◌≤◌, None, Some, IfOk, IfErr};
+ghost use Rattle.std.specs.Prelude.{◌≡◌, ◌≤◌, Some, IfOk, IfErr};
 ghost use Rattle.graph_spec.specs.ProgramLimits.{program_limits};
-ghost use Rattle.index_api.specs.IndexKinds.{kinds_of};
 ghost use Rattle.pathindex_core.specs.Engines.{IsSound, by_meaning};
+ghost use Rattle.pathindex_core.specs.EngineTerms.{IsClosed, engine_kinds};
 ghost use Rattle.any_index.specs.AnyMeanings.{meaning_of};
 ghost use Rattle.pathindex_session.specs.Sessions.{IsReady};
 ghost use Rattle.pathindex_session.specs.Openings.{kinds_kept, OpensGraph, OpensText, TellsLine};
@@ -36,8 +36,8 @@ pub struct Indexes {
 /// An engine with these indexes, which isn't open.
 fn engine_with(alloc: Global, kept: Indexes) -> Result<Engine<AnyIndex>, Memory>
     ensures sound { IfOk result (λ engine. IsSound (by_meaning meaning_of engine)) }
-    ensures kinds { IfOk result (λ engine. kinds_of (by_meaning meaning_of engine).boxes ≡ kinds_kept kept) }
-    ensures closed { IfOk result (λ engine. engine.opened ≡ None) }
+    ensures kinds { IfOk result (λ engine. engine_kinds meaning_of engine ≡ kinds_kept kept) }
+    ensures closed { IfOk result (λ engine. IsClosed engine) }
 {
     let mut indexes = Vec::new(alloc);
     indexes.push(AnyIndex::A(AkIndex::new(alloc)?))?;

@@ -7,17 +7,18 @@ ghost use Rattle.triple_names.specs.Names.{AreSameNames};
 ghost use Rattle.triple_names.specs.TripleChanges.{insert_steps, delete_change};
 ghost use Rattle.branch_query.specs.Queries.{query_of};
 ghost use Rattle.path_query.specs.Parsed.{is_past};
-ghost use Rattle.index_api.specs.IndexKinds.{is_kept, kinds_of, has_kind};
+ghost use Rattle.index_api.specs.IndexKinds.{is_kept, has_kind};
 ghost use Rattle.extent_report.specs.PrintedLists.{ListsIndex, ListsSizes};
 ghost use Rattle.index_file.specs.SavedIndexes.{SavesFile};
 ghost use Rattle.index_file.specs.WholeFiles.{HasLabels, IsIndexFile};
 ghost use Rattle.pathindex_core.specs.Engines.{kept_in};
 ghost use Rattle.pathindex_core.specs.Calls.{IsMade, IsForgotten, KeepsAllButViews};
-ghost use Rattle.pathindex_core.specs.Updates.{outcome_in};
+ghost use Rattle.pathindex_core.specs.EngineTerms.{engine_kinds, engine_outcome};
 ghost use Rattle.pathindex_session.specs.Sessions.{engine_in, graph_of, names_of, KeepsFound};
 ghost use Rattle.pathindex_session.specs.Openings.{OpensText, TellsLine};
 ghost use Rattle.pathindex_session.specs.Edits.{IsEdited, names_with};
 ghost use Rattle.pathindex_session.specs.TextAnswers.{IsAskedHow, IsExplained, SpellsPath, SpellsBranch, AnswersText, ExplainsText, ChecksText};
+ghost use Rattle.any_index.specs.AnyMeanings.{meaning_of};
 
 use crate::asking::{ask, explain, list, measure, save};
 use crate::editing::{delete, insert};
@@ -125,7 +126,7 @@ impl Session {
 
     /// Makes a change, and says which numbers its new nodes got, as `Engine::update` does and at its cost.
     pub fn update(&mut self, alloc: Global, change: Change) -> Result<Applied, UpdateError>
-        ensures refused { (r : Refusal) → (result ≡ Err (UpdateError.Refused r)) ↔ (outcome_in change self.old.engine.opened ≡ Err r) }
+        ensures refused { (r : Refusal) → (result ≡ Err (UpdateError.Refused r)) ↔ (engine_outcome change self.old.engine ≡ Err r) }
         ensures made { IfOk result (IsMade change (engine_in self.old) (engine_in self.new)) }
         ensures same { is_new change (graph_of self.old) ≡ false → result ≢ Err UpdateError.Memory }
         ensures err { OnErr result (engine_in self.new ≡ engine_in self.old) }
@@ -336,7 +337,7 @@ impl Session {
     /// Drops the index of a kind, as `Engine::forget` does.
     pub fn forget(&mut self, kind: Kind) -> Result<(), Refusal>
         ensures forgotten { IsForgotten kind (engine_in self.old) (engine_in self.new) }
-        ensures no_index { (result ≡ Err Refusal.NoIndex) ↔ (has_kind (kinds_of (engine_in self.old).boxes) kind ≡ false) }
+        ensures no_index { (result ≡ Err Refusal.NoIndex) ↔ (has_kind (engine_kinds meaning_of self.old.engine) kind ≡ false) }
         ensures no_other { (r : Refusal) → result ≡ Err r → r ≡ Refusal.NoIndex }
         ensures names { self.new.names ≡ self.old.names }
         ensures found { KeepsFound self.old self.new }

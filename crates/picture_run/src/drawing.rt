@@ -1,11 +1,12 @@
 // From the words to the status.
-ghost use Rattle.std.specs.Prelude.{◌≡◌, ◌≢◌, ◌<◌, ◌≤◌, None, IsSome, OnOk, map, string_bytes};
+ghost use Rattle.std.specs.Prelude.{◌≡◌, ◌≢◌, ◌<◌, ◌≤◌, None, OnOk, map, string_bytes};
 ghost use Rattle.graph_spec.specs.ProgramLimits.{program_limits};
 ghost use Rattle.graph_load.specs.Loads.{loaded};
 ghost use Rattle.graph_load.specs.LoadSteps.{LoadsObservable, NamesObservable};
 ghost use Rattle.index_api.specs.declared.kinds.Via.TheVariants.{Data};
 ghost use Rattle.index_picture.specs.Pictures as picture;
-ghost use Rattle.pathindex_core.specs.Engines.{IsSound, by_meaning, graph_in};
+ghost use Rattle.pathindex_core.specs.Engines.{IsSound, by_meaning};
+ghost use Rattle.pathindex_core.specs.EngineTerms.{IsClosed, IsOpened, StaysOpened, engine_graph};
 ghost use Rattle.picture_run.specs.DrawnFiles.{Draws, DrawsFile, HasDrawn, ShowsPicture};
 ghost use Rattle.picture_run.specs.Settings.{AreWithin};
 ghost use Rattle.picture_run.specs.SettingsValues.{settings_value};
@@ -55,9 +56,9 @@ fn show_summary<K: Sink>(
 
 // Drops the index of that kind, unless it is drawn.
 fn leave_out<B: PathIndex>(engine: &mut Engine<B>, kind: Kind, drawn: Kind)
-    requires closed { engine.old.opened ≡ None }
+    requires closed { IsClosed engine.old }
     requires sound { IsSound (by_meaning B.meaning engine.old) }
-    ensures closed { engine.new.opened ≡ None }
+    ensures closed { IsClosed engine.new }
     ensures sound { IsSound (by_meaning B.meaning engine.new) }
 {
     if kind != drawn {
@@ -72,12 +73,12 @@ fn build<B: PathIndex>(
     kind: Kind,
     level: u32,
 ) -> Result<(), Memory>
-    requires closed { engine.old.opened ≡ None }
+    requires closed { IsClosed engine.old }
     requires sound { IsSound (by_meaning B.meaning engine.old) }
     requires level { level ≤ 8 }
     ensures sound { IsSound (by_meaning B.meaning engine.new) }
-    ensures opened { OnOk result (IsSome engine.new.opened) }
-    ensures graph { OnOk result (graph_in engine.new.opened ≡ graph.graph) }
+    ensures opened { OnOk result (IsOpened engine.new) }
+    ensures graph { OnOk result (engine_graph engine.new ≡ graph.graph) }
 {
     leave_out(engine, Kind::A, kind);
     leave_out(engine, Kind::One, kind);
@@ -92,14 +93,14 @@ fn ready<B: PathIndex, L: Ledger>(
     via: Via,
     blank: Blank,
 ) -> Result<(), AskError>
-    requires open { IsSome engine.old.opened }
+    requires open { IsOpened engine.old }
     requires sound { IsSound (by_meaning B.meaning engine.old) }
     requires index { via ≢ Data }
     requires name { blank.name ≡ L.name }
     requires parts { blank.parts ≡ L.parts }
     requires some { 0 < blank.parts }
     ensures sound { IsSound (by_meaning B.meaning engine.new) }
-    ensures same { engine.new.opened ≡ engine.old.opened }
+    ensures same { StaysOpened engine.old engine.new }
 {
     let mut steps = Steps::<L>::new(blank);
     engine.ready(via, &mut steps)
@@ -113,9 +114,9 @@ fn show_ready<B: PathIndex, K: Sink>(
     names: &NodeNames,
     sink: &mut K,
 ) -> Status
-    requires open { IsSome engine.now.opened }
+    requires open { IsOpened engine.now }
     requires sound { IsSound (by_meaning B.meaning engine.now) }
-    ensures { ShowsPicture (settings_value settings.now) (graph_in engine.now.opened) names.now (K.written sink.old) (K.written sink.new)
+    ensures { ShowsPicture (settings_value settings.now) (engine_graph engine.now) names.now (K.written sink.old) (K.written sink.new)
         (code_of result) }
 {
     match engine.look(settings.via) {
@@ -134,7 +135,7 @@ fn show_index<B: PathIndex, K: Sink>(
     engine: &mut Engine<B>,
     sink: &mut K,
 ) -> Status
-    requires closed { engine.old.opened ≡ None }
+    requires closed { IsClosed engine.old }
     requires sound { IsSound (by_meaning B.meaning engine.old) }
     requires index { settings.now.via ≢ Data }
     requires level { place.1 ≤ 8 }
@@ -176,7 +177,7 @@ fn show_loaded<B: PathIndex, K: Sink>(
     engine: &mut Engine<B>,
     sink: &mut K,
 ) -> Status
-    requires closed { engine.old.opened ≡ None }
+    requires closed { IsClosed engine.old }
     requires sound { IsSound (by_meaning B.meaning engine.old) }
     requires within { AreWithin (settings_value settings.now) }
     ensures { ShowsPicture (settings_value settings.now) graph.graph names.now (K.written sink.old) (K.written sink.new) (code_of result) }
@@ -199,7 +200,7 @@ fn show_named<B: PathIndex, H: Shelf, K: Sink>(
 ) -> Status
     requires loads { LoadsObservable program_limits (H.files shelf.old) (settings_value settings.now).file (loaded graph.graph) }
     requires numbers { NamesObservable program_limits (H.files shelf.old) (settings_value settings.now).file graph.graph terms.now.names }
-    requires closed { engine.old.opened ≡ None }
+    requires closed { IsClosed engine.old }
     requires sound { IsSound (by_meaning B.meaning engine.old) }
     requires within { AreWithin (settings_value settings.now) }
     ensures does { DrawsFile (settings_value settings.now) (H.files shelf.old) (K.written sink.old) (K.written sink.new) (code_of result) }
@@ -221,7 +222,7 @@ fn run_settings<B: PathIndex, H: Shelf, K: Sink>(
     shelf: &mut H,
     sink: &mut K,
 ) -> Status
-    requires closed { engine.old.opened ≡ None }
+    requires closed { IsClosed engine.old }
     requires sound { IsSound (by_meaning B.meaning engine.old) }
     requires within { AreWithin (settings_value settings.now) }
     ensures does { DrawsFile (settings_value settings.now) (H.files shelf.old) (K.written sink.old) (K.written sink.new) (code_of result) }
@@ -245,7 +246,7 @@ fn run_words<B: PathIndex, H: Shelf, K: Sink>(
     shelf: &mut H,
     sink: &mut K,
 ) -> Status
-    requires closed { engine.old.opened ≡ None }
+    requires closed { IsClosed engine.old }
     requires sound { IsSound (by_meaning B.meaning engine.old) }
     ensures does { Draws (settings_of (map string_bytes words.now)) (H.files shelf.old) (K.written sink.old) (K.written sink.new) (code_of result) }
     ensures files { H.files shelf.new ≡ H.files shelf.old }
@@ -281,7 +282,7 @@ pub fn run<B: PathIndex, H: Shelf, K: Sink>(
     shelf: &mut H,
     sink: &mut K,
 ) -> u8
-    requires closed { engine.old.opened ≡ None }
+    requires closed { IsClosed engine.old }
     requires sound { IsSound (by_meaning B.meaning engine.old) }
     // Status 0: the words give settings, and the picture that they ask for is written.
     ensures drawn { result ≡ 0 → HasDrawn (settings_of (map string_bytes words.now)) (H.files shelf.old) (K.written sink.old) (K.written sink.new) }

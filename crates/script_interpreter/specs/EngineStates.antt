@@ -1,14 +1,15 @@
 -- The state of a run, as the engine has it.
-use Rattle.std.specs.Prelude.{◌≡◌, Some, IsSome}
+use Rattle.std.specs.Prelude.{◌≡◌}
 use Rattle.graph_spec.specs.ProgramLimits.{program_limits}
 use Rattle.index_api.specs.Meanings.{Meaning}
 use Rattle.triple_names.specs.Names.{Names}
-use Rattle.pathindex_core.specs.Engines.{Opened, EngineOf, EngineSeen, IsSound, by_meaning, graph_in, kept_in}
+use Rattle.pathindex_core.specs.Engines.{Opened, EngineOf, EngineSeen, IsSound, by_meaning, kept_in}
+use Rattle.pathindex_core.specs.EngineTerms.{IsSeenOpen, IsSeenOpenedAs, seen_graph}
 use Rattle.script_interpreter.specs.States.{State}
 
 -- the graph and the indexes of the engine, and these numbers of terms and triples
 abbrev pub state_in : EngineSeen → Names → State
-state_in e n = record { graph = graph_in e.opened; kept = kept_in e; names = n }
+state_in e n = record { graph = seen_graph e; kept = kept_in e; names = n }
 
 -- the same of an engine, by what its indexes mean
 abbrev pub state_of : {B : Type 0} → (B → Meaning) → EngineOf B → Names → State
@@ -18,11 +19,11 @@ state_of meaning e n = state_in (by_meaning meaning e) n
 pub record IsOpen (e : EngineSeen) : Type 0 where
   pub sound : IsSound e
   pub opened : Opened
-  pub opened_is : e.opened ≡ Some opened
+  pub opened_is : IsSeenOpenedAs e opened
   pub limits_are : opened.limits ≡ program_limits
 
 -- the engine is open, and has the graph and the indexes of the state
 pub record IsIn (e : EngineSeen) (s : State) : Type 0 where
-  pub is_open : IsSome e.opened
-  pub graph : graph_in e.opened ≡ s.graph
+  pub is_open : IsSeenOpen e
+  pub graph : seen_graph e ≡ s.graph
   pub kept : kept_in e ≡ s.kept

@@ -9,7 +9,8 @@ ghost use Rattle.index_file.specs.WrittenFiles.{head_text};
 ghost use Rattle.index_file.specs.SavedIndexes.{SavesIndex, SavesIndexes};
 ghost use Rattle.index_file.specs.WholeFiles.{HasLabels};
 ghost use Rattle.pathindex_core.specs.Calls.{KeepsAllButViews};
-ghost use Rattle.pathindex_core.specs.Engines.{by_meaning, graph_in, kept_in};
+ghost use Rattle.pathindex_core.specs.Engines.{by_meaning, kept_in};
+ghost use Rattle.pathindex_core.specs.EngineTerms.{engine_graph};
 ghost use Rattle.script_interpreter.specs.EngineStates.{IsOpen};
 ghost use Rattle.script_interpreter.specs.Indexes.{IsSaved};
 ghost use Rattle.script_interpreter.specs.Pieces.{Wrote, WrotePart, SavesParts};
@@ -70,9 +71,9 @@ fn write_view<B: PathIndex, K: Sink, L: Ledger>(
     requires index { via ≢ Data }
     ensures ready { IsOpen (by_meaning B.meaning engine.new) }
     ensures asked { KeepsAllButViews (by_meaning B.meaning engine.old) (by_meaning B.meaning engine.new) }
-    ensures all { OnOk result (Wrote (SavesIndex (graph_in engine.old.opened) (kept_in (by_meaning B.meaning engine.old)) via)
+    ensures all { OnOk result (Wrote (SavesIndex (engine_graph engine.old) (kept_in (by_meaning B.meaning engine.old)) via)
         (K.written sink.old) (K.written sink.new)) }
-    ensures part { OnErr result (WrotePart (SavesIndex (graph_in engine.old.opened) (kept_in (by_meaning B.meaning engine.old)) via)
+    ensures part { OnErr result (WrotePart (SavesIndex (engine_graph engine.old) (kept_in (by_meaning B.meaning engine.old)) via)
         (K.written sink.old) (K.written sink.new)) }
     ensures sink { IsErrOf result Stop.Sink → MayHaveRisen (K.faults sink.old) (K.faults sink.new) }
     ensures no_sink { result ≢ Err Stop.Sink → K.faults sink.new ≡ K.faults sink.old }
@@ -98,9 +99,9 @@ fn write_views<B: PathIndex, K: Sink, L: Ledger>(
     requires ready { IsOpen (by_meaning B.meaning engine.old) }
     ensures ready { IsOpen (by_meaning B.meaning engine.new) }
     ensures asked { KeepsAllButViews (by_meaning B.meaning engine.old) (by_meaning B.meaning engine.new) }
-    ensures all { OnOk result (Wrote (SavesIndexes (graph_in engine.old.opened) (kept_in (by_meaning B.meaning engine.old)) (all_indexes k))
+    ensures all { OnOk result (Wrote (SavesIndexes (engine_graph engine.old) (kept_in (by_meaning B.meaning engine.old)) (all_indexes k))
         (K.written sink.old) (K.written sink.new)) }
-    ensures part { OnErr result (WrotePart (SavesIndexes (graph_in engine.old.opened) (kept_in (by_meaning B.meaning engine.old)) (all_indexes k))
+    ensures part { OnErr result (WrotePart (SavesIndexes (engine_graph engine.old) (kept_in (by_meaning B.meaning engine.old)) (all_indexes k))
         (K.written sink.old) (K.written sink.new)) }
     ensures sink { IsErrOf result Stop.Sink → MayHaveRisen (K.faults sink.old) (K.faults sink.new) }
     ensures no_sink { result ≢ Err Stop.Sink → K.faults sink.new ≡ K.faults sink.old }
@@ -131,9 +132,9 @@ fn write_file<B: PathIndex, K: Sink, L: Ledger>(
     requires ready { IsOpen (by_meaning B.meaning engine.old) }
     ensures ready { IsOpen (by_meaning B.meaning engine.new) }
     ensures asked { KeepsAllButViews (by_meaning B.meaning engine.old) (by_meaning B.meaning engine.new) }
-    ensures all { OnOk result (Wrote (SavesParts (graph_in engine.old.opened) (kept_in (by_meaning B.meaning engine.old)) k count)
+    ensures all { OnOk result (Wrote (SavesParts (engine_graph engine.old) (kept_in (by_meaning B.meaning engine.old)) k count)
         (K.written sink.old) (K.written sink.new)) }
-    ensures part { OnErr result (WrotePart (SavesParts (graph_in engine.old.opened) (kept_in (by_meaning B.meaning engine.old)) k count)
+    ensures part { OnErr result (WrotePart (SavesParts (engine_graph engine.old) (kept_in (by_meaning B.meaning engine.old)) k count)
         (K.written sink.old) (K.written sink.new)) }
     ensures sink { IsErrOf result Stop.Sink → MayHaveRisen (K.faults sink.old) (K.faults sink.new) }
     ensures no_sink { result ≢ Err Stop.Sink → K.faults sink.new ≡ K.faults sink.old }
@@ -161,9 +162,9 @@ pub(crate) fn save<B: PathIndex, K: Sink, L: Ledger>(
     requires ready { IsOpen (by_meaning B.meaning engine.old) }
     ensures ready { IsOpen (by_meaning B.meaning engine.new) }
     ensures asked { KeepsAllButViews (by_meaning B.meaning engine.old) (by_meaning B.meaning engine.new) }
-    ensures all { HasLabels (graph_in engine.old.opened) → OnOk result (Wrote (IsSaved (graph_in engine.old.opened)
+    ensures all { HasLabels (engine_graph engine.old) → OnOk result (Wrote (IsSaved (engine_graph engine.old)
         (kept_in (by_meaning B.meaning engine.old))) (K.written sink.old) (K.written sink.new)) }
-    ensures part { HasLabels (graph_in engine.old.opened) → OnErr result (WrotePart (IsSaved (graph_in engine.old.opened)
+    ensures part { HasLabels (engine_graph engine.old) → OnErr result (WrotePart (IsSaved (engine_graph engine.old)
         (kept_in (by_meaning B.meaning engine.old))) (K.written sink.old) (K.written sink.new)) }
     ensures sink { IsErrOf result Stop.Sink → MayHaveRisen (K.faults sink.old) (K.faults sink.new) }
     ensures no_sink { result ≢ Err Stop.Sink → K.faults sink.new ≡ K.faults sink.old }

@@ -5,7 +5,8 @@ ghost use Rattle.px_base.specs.Causes.{MayHaveRisen, HasCause};
 ghost use Rattle.px_base.specs.Files.{AppendsPrefix};
 ghost use Rattle.px_base.specs.ReaderStates.{stream};
 ghost use Rattle.index_file.specs.WholeFiles.{HasLabels};
-ghost use Rattle.pathindex_core.specs.Engines.{by_meaning, graph_in};
+ghost use Rattle.pathindex_core.specs.Engines.{by_meaning};
+ghost use Rattle.pathindex_core.specs.EngineTerms.{engine_graph};
 ghost use Rattle.script_interpreter.specs.Rules.{rules_for};
 ghost use Rattle.script_interpreter.specs.RunSteps.{progress, Goes, OnTaken, CanRead, Writes};
 ghost use Rattle.script_interpreter.specs.Runs.{Progress, Group, end_status, text_at_end};
@@ -219,10 +220,10 @@ pub fn run_lines<B: PathIndex, H: Shelf, K: Sink>(
     requires file { IsTrue (H.is_open shelf.old) }
     requires ready { IsOpen (by_meaning B.meaning engine.old) }
     ensures ready { IsOpen (by_meaning B.meaning engine.new) }
-    ensures ran { HasLabels (graph_in engine.old.opened) → IfOk result (λ ending. RanObservable (rules_for printing)
+    ensures ran { HasLabels (engine_graph engine.old) → IfOk result (λ ending. RanObservable (rules_for printing)
         (state_of B.meaning engine.old names.names) (H.left shelf.old) (K.written sink.old) (K.written sink.new) (status_at ending)
         (IsIn (by_meaning B.meaning engine.new))) }
-    ensures part { HasLabels (graph_in engine.old.opened) → OnErr result (PrefixObservable (rules_for printing)
+    ensures part { HasLabels (engine_graph engine.old) → OnErr result (PrefixObservable (rules_for printing)
         (state_of B.meaning engine.old names.names) (H.left shelf.old) (K.written sink.old) (K.written sink.new)) }
     ensures files { H.files shelf.new ≡ H.files shelf.old }
     ensures shelf_fault { IsErrOf result Stop.Shelf → MayHaveRisen (H.faults shelf.old) (H.faults shelf.new) }

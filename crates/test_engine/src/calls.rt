@@ -1,7 +1,8 @@
 // Calls of an engine, and what they answer.
-ghost use Rattle.std.specs.Prelude.{◌≡◌, ◌≢◌, ◌<◌, true, None, IsSome};
+ghost use Rattle.std.specs.Prelude.{◌≡◌, ◌≢◌, ◌<◌, true, None};
 ghost use Rattle.index_api.specs.declared.kinds.Via.TheVariants.{Data};
 ghost use Rattle.pathindex_core.specs.Engines.{IsSound, by_meaning};
+ghost use Rattle.pathindex_core.specs.EngineTerms.{IsClosed, IsOpened};
 
 use graph_update::{Applied, Change, Step};
 use index_api::{PathIndex, Via};
@@ -27,9 +28,9 @@ pub(crate) fn opens<B: PathIndex>(
     graph: Option<Graph>,
     limits: Limits,
 ) -> bool
-    requires closed { engine.old.opened ≡ None }
+    requires closed { IsClosed engine.old }
     requires sound { IsSound (by_meaning B.meaning engine.old) }
-    ensures open { result ≡ true → IsSome engine.new.opened }
+    ensures open { result ≡ true → IsOpened engine.new }
     ensures sound { IsSound (by_meaning B.meaning engine.new) }
 {
     match graph {
@@ -43,9 +44,9 @@ pub(crate) fn node<B: PathIndex>(
     engine: &mut Engine<B>,
     alloc: Global,
 ) -> Option<Result<Applied, UpdateError>>
-    requires open { IsSome engine.old.opened }
+    requires open { IsOpened engine.old }
     requires sound { IsSound (by_meaning B.meaning engine.old) }
-    ensures open { IsSome engine.new.opened }
+    ensures open { IsOpened engine.new }
     ensures sound { IsSound (by_meaning B.meaning engine.new) }
 {
     let label = Text::from_bytes(alloc, b"a").ok()?;
@@ -55,9 +56,9 @@ pub(crate) fn node<B: PathIndex>(
 
 /// Whether one more node is added with that number.
 pub(crate) fn adds_node<B: PathIndex>(engine: &mut Engine<B>, alloc: Global, number: u32) -> bool
-    requires open { IsSome engine.old.opened }
+    requires open { IsOpened engine.old }
     requires sound { IsSound (by_meaning B.meaning engine.old) }
-    ensures open { IsSome engine.new.opened }
+    ensures open { IsOpened engine.new }
     ensures sound { IsSound (by_meaning B.meaning engine.new) }
 {
     node(engine, alloc)
@@ -73,9 +74,9 @@ pub(crate) fn fails_to_add<B: PathIndex>(
     alloc: Global,
     error: UpdateError,
 ) -> bool
-    requires open { IsSome engine.old.opened }
+    requires open { IsOpened engine.old }
     requires sound { IsSound (by_meaning B.meaning engine.old) }
-    ensures open { IsSome engine.new.opened }
+    ensures open { IsOpened engine.new }
     ensures sound { IsSound (by_meaning B.meaning engine.new) }
 {
     node(engine, alloc) == Some(Err(error))
@@ -89,12 +90,12 @@ fn listed<B: PathIndex, L: Ledger>(
     blank: Blank,
 ) -> Result<Text, AskError>
     requires index { via ≢ Data }
-    requires open { IsSome engine.old.opened }
+    requires open { IsOpened engine.old }
     requires sound { IsSound (by_meaning B.meaning engine.old) }
     requires name { blank.name ≡ L.name }
     requires parts { blank.parts ≡ L.parts }
     requires some { 0 < blank.parts }
-    ensures open { IsSome engine.new.opened }
+    ensures open { IsOpened engine.new }
     ensures sound { IsSound (by_meaning B.meaning engine.new) }
 {
     let mut steps = Steps::<L>::new(blank);
@@ -109,9 +110,9 @@ pub(crate) fn lists<B: PathIndex>(
     list: Option<&str>,
 ) -> bool
     requires index { via ≢ Data }
-    requires open { IsSome engine.old.opened }
+    requires open { IsOpened engine.old }
     requires sound { IsSound (by_meaning B.meaning engine.old) }
-    ensures open { IsSome engine.new.opened }
+    ensures open { IsOpened engine.new }
     ensures sound { IsSound (by_meaning B.meaning engine.new) }
 {
     match listed::<B, Brand>(engine, alloc, via, Blank::new(1)) {

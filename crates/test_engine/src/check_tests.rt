@@ -1,6 +1,7 @@
 // Candidates that are few in a graph of some size, so that they are checked over what leads to them.
-ghost use Rattle.std.specs.Prelude.{◌≡◌, ◌<◌, None, IsSome};
+ghost use Rattle.std.specs.Prelude.{◌≡◌, ◌<◌};
 ghost use Rattle.pathindex_core.specs.Engines.{IsSound, by_meaning};
+ghost use Rattle.pathindex_core.specs.EngineTerms.{IsClosed, IsOpened};
 
 use crate::calls::opens;
 use crate::full_tests::path_gives;
@@ -45,9 +46,9 @@ fn text_gives<B: PathIndex>(
     text: &str,
     nodes: &[NodeId],
 ) -> bool
-    requires open { IsSome engine.old.opened }
+    requires open { IsOpened engine.old }
     requires sound { IsSound (by_meaning B.meaning engine.old) }
-    ensures open { IsSome engine.new.opened }
+    ensures open { IsOpened engine.new }
     ensures sound { IsSound (by_meaning B.meaning engine.new) }
 {
     match PathExpr::parse(alloc, text.as_bytes(), &Limits::program()) {
@@ -58,9 +59,9 @@ fn text_gives<B: PathIndex>(
 
 /// Whether both nodes `c` are candidates of a few paths, and answer where a walk leads to them.
 fn few_are_checked<B: PathIndex>(engine: &mut Engine<B>, alloc: Global) -> bool
-    requires open { IsSome engine.old.opened }
+    requires open { IsOpened engine.old }
     requires sound { IsSound (by_meaning B.meaning engine.old) }
-    ensures open { IsSome engine.new.opened }
+    ensures open { IsOpened engine.new }
     ensures sound { IsSound (by_meaning B.meaning engine.new) }
 {
     text_gives(engine, alloc, "b/c", &[2, 4])
@@ -70,7 +71,7 @@ fn few_are_checked<B: PathIndex>(engine: &mut Engine<B>, alloc: Global) -> bool
 
 /// Whether they do in an engine that is opened with this graph.
 fn opens_and_checks<B: PathIndex>(engine: &mut Engine<B>, alloc: Global, graph: Graph) -> bool
-    requires closed { engine.old.opened ≡ None }
+    requires closed { IsClosed engine.old }
     requires sound { IsSound (by_meaning B.meaning engine.old) }
 {
     opens(engine, Some(graph), Limits::program()) && few_are_checked(engine, alloc)

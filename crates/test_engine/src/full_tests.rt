@@ -1,6 +1,7 @@
 // One query, through each index and the graph itself.
-ghost use Rattle.std.specs.Prelude.{◌≡◌, ◌<◌, None, IsSome};
+ghost use Rattle.std.specs.Prelude.{◌≡◌, ◌<◌};
 ghost use Rattle.pathindex_core.specs.Engines.{IsSound, by_meaning};
+ghost use Rattle.pathindex_core.specs.EngineTerms.{IsClosed, IsOpened};
 
 use crate::calls::opens;
 use any_index::full_engine;
@@ -18,9 +19,9 @@ use std::test::Fail;
 
 /// Makes a change of one step.
 pub(crate) fn makes<B: PathIndex>(engine: &mut Engine<B>, alloc: Global, step: Step) -> bool
-    requires open { IsSome engine.old.opened }
+    requires open { IsOpened engine.old }
     requires sound { IsSound (by_meaning B.meaning engine.old) }
-    ensures open { IsSome engine.new.opened }
+    ensures open { IsOpened engine.new }
     ensures sound { IsSound (by_meaning B.meaning engine.new) }
 {
     match Change::one(alloc, step) {
@@ -31,9 +32,9 @@ pub(crate) fn makes<B: PathIndex>(engine: &mut Engine<B>, alloc: Global, step: S
 
 /// Adds a node with this label.
 fn adds<B: PathIndex>(engine: &mut Engine<B>, alloc: Global, label: &str) -> bool
-    requires open { IsSome engine.old.opened }
+    requires open { IsOpened engine.old }
     requires sound { IsSound (by_meaning B.meaning engine.old) }
-    ensures open { IsSome engine.new.opened }
+    ensures open { IsOpened engine.new }
     ensures sound { IsSound (by_meaning B.meaning engine.new) }
 {
     match Text::from_bytes(alloc, label.as_bytes()) {
@@ -49,9 +50,9 @@ pub(crate) fn adds_both<B: PathIndex>(
     first: &str,
     second: &str,
 ) -> bool
-    requires open { IsSome engine.old.opened }
+    requires open { IsOpened engine.old }
     requires sound { IsSound (by_meaning B.meaning engine.old) }
-    ensures open { IsSome engine.new.opened }
+    ensures open { IsOpened engine.new }
     ensures sound { IsSound (by_meaning B.meaning engine.new) }
 {
     adds(engine, alloc, first) && adds(engine, alloc, second)
@@ -59,9 +60,9 @@ pub(crate) fn adds_both<B: PathIndex>(
 
 /// Links the first node to the second and the third, and the second to the fourth.
 fn links<B: PathIndex>(engine: &mut Engine<B>, alloc: Global) -> bool
-    requires open { IsSome engine.old.opened }
+    requires open { IsOpened engine.old }
     requires sound { IsSound (by_meaning B.meaning engine.old) }
-    ensures open { IsSome engine.new.opened }
+    ensures open { IsOpened engine.new }
     ensures sound { IsSound (by_meaning B.meaning engine.new) }
 {
     makes(engine, alloc, Step::Link(0, 1))
@@ -71,9 +72,9 @@ fn links<B: PathIndex>(engine: &mut Engine<B>, alloc: Global) -> bool
 
 /// Adds an `a` with two children `b`, the first of which has a child `c`.
 fn grows<B: PathIndex>(engine: &mut Engine<B>, alloc: Global) -> bool
-    requires open { IsSome engine.old.opened }
+    requires open { IsOpened engine.old }
     requires sound { IsSound (by_meaning B.meaning engine.old) }
-    ensures open { IsSome engine.new.opened }
+    ensures open { IsOpened engine.new }
     ensures sound { IsSound (by_meaning B.meaning engine.new) }
 {
     adds_both(engine, alloc, "a", "b") && adds_both(engine, alloc, "b", "c") && links(engine, alloc)
@@ -98,12 +99,12 @@ fn path_counted<B: PathIndex, L: Ledger>(
     expr: &PathExpr,
     blank: Blank,
 ) -> Result<Answer, AskError>
-    requires open { IsSome engine.old.opened }
+    requires open { IsOpened engine.old }
     requires sound { IsSound (by_meaning B.meaning engine.old) }
     requires name { blank.name ≡ L.name }
     requires parts { blank.parts ≡ L.parts }
     requires some { 0 < blank.parts }
-    ensures open { IsSome engine.new.opened }
+    ensures open { IsOpened engine.new }
     ensures sound { IsSound (by_meaning B.meaning engine.new) }
 {
     let mut steps = Steps::<L>::new(blank);
@@ -118,9 +119,9 @@ pub(crate) fn path_gives<B: PathIndex>(
     expr: &PathExpr,
     nodes: &[NodeId],
 ) -> bool
-    requires open { IsSome engine.old.opened }
+    requires open { IsOpened engine.old }
     requires sound { IsSound (by_meaning B.meaning engine.old) }
-    ensures open { IsSome engine.new.opened }
+    ensures open { IsOpened engine.new }
     ensures sound { IsSound (by_meaning B.meaning engine.new) }
 {
     let answer = path_counted::<B, Brand>(engine, alloc, via, expr, Blank::new(1));
@@ -135,12 +136,12 @@ fn branch_counted<B: PathIndex, L: Ledger>(
     query: &Branch,
     blank: Blank,
 ) -> Result<Answer, AskError>
-    requires open { IsSome engine.old.opened }
+    requires open { IsOpened engine.old }
     requires sound { IsSound (by_meaning B.meaning engine.old) }
     requires name { blank.name ≡ L.name }
     requires parts { blank.parts ≡ L.parts }
     requires some { 0 < blank.parts }
-    ensures open { IsSome engine.new.opened }
+    ensures open { IsOpened engine.new }
     ensures sound { IsSound (by_meaning B.meaning engine.new) }
 {
     let mut steps = Steps::<L>::new(blank);
@@ -155,9 +156,9 @@ fn branch_gives<B: PathIndex>(
     query: &Branch,
     nodes: &[NodeId],
 ) -> bool
-    requires open { IsSome engine.old.opened }
+    requires open { IsOpened engine.old }
     requires sound { IsSound (by_meaning B.meaning engine.old) }
-    ensures open { IsSome engine.new.opened }
+    ensures open { IsOpened engine.new }
     ensures sound { IsSound (by_meaning B.meaning engine.new) }
 {
     let answer = branch_counted::<B, Brand>(engine, alloc, via, query, Blank::new(1));
@@ -171,9 +172,9 @@ fn path_gives_by_levels<B: PathIndex>(
     expr: &PathExpr,
     nodes: &[NodeId],
 ) -> bool
-    requires open { IsSome engine.old.opened }
+    requires open { IsOpened engine.old }
     requires sound { IsSound (by_meaning B.meaning engine.old) }
-    ensures open { IsSome engine.new.opened }
+    ensures open { IsOpened engine.new }
     ensures sound { IsSound (by_meaning B.meaning engine.new) }
 {
     path_gives(engine, alloc, Via::A(0), expr, nodes)
@@ -189,9 +190,9 @@ fn path_gives_else<B: PathIndex>(
     expr: &PathExpr,
     nodes: &[NodeId],
 ) -> bool
-    requires open { IsSome engine.old.opened }
+    requires open { IsOpened engine.old }
     requires sound { IsSound (by_meaning B.meaning engine.old) }
-    ensures open { IsSome engine.new.opened }
+    ensures open { IsOpened engine.new }
     ensures sound { IsSound (by_meaning B.meaning engine.new) }
 {
     path_gives(engine, alloc, Via::Data, expr, nodes)
@@ -206,9 +207,9 @@ fn path_gives_always<B: PathIndex>(
     expr: &PathExpr,
     nodes: &[NodeId],
 ) -> bool
-    requires open { IsSome engine.old.opened }
+    requires open { IsOpened engine.old }
     requires sound { IsSound (by_meaning B.meaning engine.old) }
-    ensures open { IsSome engine.new.opened }
+    ensures open { IsOpened engine.new }
     ensures sound { IsSound (by_meaning B.meaning engine.new) }
 {
     path_gives_by_levels(engine, alloc, expr, nodes) && path_gives_else(engine, alloc, expr, nodes)
@@ -221,9 +222,9 @@ fn path_text_gives<B: PathIndex>(
     text: &str,
     nodes: &[NodeId],
 ) -> bool
-    requires open { IsSome engine.old.opened }
+    requires open { IsOpened engine.old }
     requires sound { IsSound (by_meaning B.meaning engine.old) }
-    ensures open { IsSome engine.new.opened }
+    ensures open { IsOpened engine.new }
     ensures sound { IsSound (by_meaning B.meaning engine.new) }
 {
     match PathExpr::parse(alloc, text.as_bytes(), &Limits::program()) {
@@ -239,9 +240,9 @@ fn branch_gives_by_levels<B: PathIndex>(
     query: &Branch,
     nodes: &[NodeId],
 ) -> bool
-    requires open { IsSome engine.old.opened }
+    requires open { IsOpened engine.old }
     requires sound { IsSound (by_meaning B.meaning engine.old) }
-    ensures open { IsSome engine.new.opened }
+    ensures open { IsOpened engine.new }
     ensures sound { IsSound (by_meaning B.meaning engine.new) }
 {
     branch_gives(engine, alloc, Via::A(0), query, nodes)
@@ -257,9 +258,9 @@ fn branch_gives_else<B: PathIndex>(
     query: &Branch,
     nodes: &[NodeId],
 ) -> bool
-    requires open { IsSome engine.old.opened }
+    requires open { IsOpened engine.old }
     requires sound { IsSound (by_meaning B.meaning engine.old) }
-    ensures open { IsSome engine.new.opened }
+    ensures open { IsOpened engine.new }
     ensures sound { IsSound (by_meaning B.meaning engine.new) }
 {
     branch_gives(engine, alloc, Via::Data, query, nodes)
@@ -274,9 +275,9 @@ fn branch_gives_always<B: PathIndex>(
     query: &Branch,
     nodes: &[NodeId],
 ) -> bool
-    requires open { IsSome engine.old.opened }
+    requires open { IsOpened engine.old }
     requires sound { IsSound (by_meaning B.meaning engine.old) }
-    ensures open { IsSome engine.new.opened }
+    ensures open { IsOpened engine.new }
     ensures sound { IsSound (by_meaning B.meaning engine.new) }
 {
     branch_gives_by_levels(engine, alloc, query, nodes)
@@ -290,9 +291,9 @@ fn branch_text_gives<B: PathIndex>(
     text: &str,
     nodes: &[NodeId],
 ) -> bool
-    requires open { IsSome engine.old.opened }
+    requires open { IsOpened engine.old }
     requires sound { IsSound (by_meaning B.meaning engine.old) }
-    ensures open { IsSome engine.new.opened }
+    ensures open { IsOpened engine.new }
     ensures sound { IsSound (by_meaning B.meaning engine.new) }
 {
     match Branch::parse(alloc, text.as_bytes(), &Limits::program()) {
@@ -303,9 +304,9 @@ fn branch_text_gives<B: PathIndex>(
 
 /// Whether a few paths have their answers over the small graph.
 fn paths_give<B: PathIndex>(engine: &mut Engine<B>, alloc: Global) -> bool
-    requires open { IsSome engine.old.opened }
+    requires open { IsOpened engine.old }
     requires sound { IsSound (by_meaning B.meaning engine.old) }
-    ensures open { IsSome engine.new.opened }
+    ensures open { IsOpened engine.new }
     ensures sound { IsSound (by_meaning B.meaning engine.new) }
 {
     path_text_gives(engine, alloc, "a/b", &[1, 2])
@@ -315,9 +316,9 @@ fn paths_give<B: PathIndex>(engine: &mut Engine<B>, alloc: Global) -> bool
 
 /// Whether a few branching queries do.
 fn branches_give<B: PathIndex>(engine: &mut Engine<B>, alloc: Global) -> bool
-    requires open { IsSome engine.old.opened }
+    requires open { IsOpened engine.old }
     requires sound { IsSound (by_meaning B.meaning engine.old) }
-    ensures open { IsSome engine.new.opened }
+    ensures open { IsOpened engine.new }
     ensures sound { IsSound (by_meaning B.meaning engine.new) }
 {
     branch_text_gives(engine, alloc, "b[not(/c)]", &[2])
@@ -326,7 +327,7 @@ fn branches_give<B: PathIndex>(engine: &mut Engine<B>, alloc: Global) -> bool
 
 /// Whether each of a few queries has its answers over the small graph, however it is asked.
 fn queries_give<B: PathIndex>(engine: &mut Engine<B>, alloc: Global) -> bool
-    requires closed { engine.old.opened ≡ None }
+    requires closed { IsClosed engine.old }
     requires sound { IsSound (by_meaning B.meaning engine.old) }
 {
     opens(engine, Graph::new(alloc).ok(), Limits::program())

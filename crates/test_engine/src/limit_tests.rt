@@ -1,6 +1,7 @@
 // An engine with all indexes and room for two nodes.
-ghost use Rattle.std.specs.Prelude.{◌≡◌, None, IsSome};
+ghost use Rattle.std.specs.Prelude.{◌≡◌};
 ghost use Rattle.pathindex_core.specs.Engines.{IsSound, by_meaning};
+ghost use Rattle.pathindex_core.specs.EngineTerms.{IsClosed, IsOpened};
 
 use crate::calls::{FEW, adds_node, fails_to_add, lists, opens};
 use any_index::full_engine;
@@ -13,9 +14,9 @@ use std::test::Fail;
 
 /// Whether there are two nodes together in each index.
 fn lists_two<B: PathIndex>(engine: &mut Engine<B>, alloc: Global) -> bool
-    requires open { IsSome engine.old.opened }
+    requires open { IsOpened engine.old }
     requires sound { IsSound (by_meaning B.meaning engine.old) }
-    ensures open { IsSome engine.new.opened }
+    ensures open { IsOpened engine.new }
     ensures sound { IsSound (by_meaning B.meaning engine.new) }
 {
     lists(engine, alloc, Via::A(1), Some("blocks 1\na n0 n1\n"))
@@ -25,9 +26,9 @@ fn lists_two<B: PathIndex>(engine: &mut Engine<B>, alloc: Global) -> bool
 
 /// Whether there are two nodes, together in each index.
 fn has_two<B: PathIndex>(engine: &mut Engine<B>, alloc: Global) -> bool
-    requires open { IsSome engine.old.opened }
+    requires open { IsOpened engine.old }
     requires sound { IsSound (by_meaning B.meaning engine.old) }
-    ensures open { IsSome engine.new.opened }
+    ensures open { IsOpened engine.new }
     ensures sound { IsSound (by_meaning B.meaning engine.new) }
 {
     engine.graph().created() == 2 && lists_two(engine, alloc)
@@ -35,9 +36,9 @@ fn has_two<B: PathIndex>(engine: &mut Engine<B>, alloc: Global) -> bool
 
 /// Whether two nodes are added.
 fn fills<B: PathIndex>(engine: &mut Engine<B>, alloc: Global) -> bool
-    requires open { IsSome engine.old.opened }
+    requires open { IsOpened engine.old }
     requires sound { IsSound (by_meaning B.meaning engine.old) }
-    ensures open { IsSome engine.new.opened }
+    ensures open { IsOpened engine.new }
     ensures sound { IsSound (by_meaning B.meaning engine.new) }
 {
     adds_node(engine, alloc, 0) && adds_node(engine, alloc, 1)
@@ -45,7 +46,7 @@ fn fills<B: PathIndex>(engine: &mut Engine<B>, alloc: Global) -> bool
 
 /// Whether a third node is refused, and leaves the graph and its indexes as they were.
 fn overfills<B: PathIndex>(engine: &mut Engine<B>, alloc: Global) -> bool
-    requires closed { engine.old.opened ≡ None }
+    requires closed { IsClosed engine.old }
     requires sound { IsSound (by_meaning B.meaning engine.old) }
 {
     opens(engine, Graph::new(alloc).ok(), FEW)

@@ -1,6 +1,7 @@
 // An engine one of whose boxes finds no memory: what fails leaves all as it was, and what needs no memory there goes on.
-ghost use Rattle.std.specs.Prelude.{◌≡◌, ◌<◌, None, IsSome};
+ghost use Rattle.std.specs.Prelude.{◌≡◌, ◌<◌, None};
 ghost use Rattle.pathindex_core.specs.Engines.{IsSound, by_meaning};
+ghost use Rattle.pathindex_core.specs.EngineTerms.{IsClosed, IsOpened};
 
 use crate::calls::{FEW, adds_node, fails_to_add, lists, opens};
 use crate::failing_index::{BoxesTask, with_failing_engine};
@@ -52,9 +53,9 @@ fn start_with_one(alloc: Global) -> Start {
 
 /// Whether each index that has views has this list.
 fn all_list<B: PathIndex>(engine: &mut Engine<B>, alloc: Global, list: &str) -> bool
-    requires open { IsSome engine.old.opened }
+    requires open { IsOpened engine.old }
     requires sound { IsSound (by_meaning B.meaning engine.old) }
-    ensures open { IsSome engine.new.opened }
+    ensures open { IsOpened engine.new }
     ensures sound { IsSound (by_meaning B.meaning engine.new) }
 {
     lists(engine, alloc, Via::A(0), Some(list))
@@ -64,9 +65,9 @@ fn all_list<B: PathIndex>(engine: &mut Engine<B>, alloc: Global, list: &str) -> 
 
 /// Whether the graph has so many nodes, and each index that has views this list.
 fn is_as_begun<B: PathIndex>(engine: &mut Engine<B>, alloc: Global, nodes: u32, list: &str) -> bool
-    requires open { IsSome engine.old.opened }
+    requires open { IsOpened engine.old }
     requires sound { IsSound (by_meaning B.meaning engine.old) }
-    ensures open { IsSome engine.new.opened }
+    ensures open { IsOpened engine.new }
     ensures sound { IsSound (by_meaning B.meaning engine.new) }
 {
     engine.graph().created() == nodes && all_list(engine, alloc, list)
@@ -74,9 +75,9 @@ fn is_as_begun<B: PathIndex>(engine: &mut Engine<B>, alloc: Global, nodes: u32, 
 
 /// Whether a node is added with this number once the box that fails is forgotten.
 fn goes_on_without<B: PathIndex>(engine: &mut Engine<B>, alloc: Global, number: u32) -> bool
-    requires open { IsSome engine.old.opened }
+    requires open { IsOpened engine.old }
     requires sound { IsSound (by_meaning B.meaning engine.old) }
-    ensures open { IsSome engine.new.opened }
+    ensures open { IsOpened engine.new }
     ensures sound { IsSound (by_meaning B.meaning engine.new) }
 {
     engine.forget(Kind::Fb).is_ok() && adds_node(engine, alloc, number)
@@ -123,12 +124,12 @@ fn found<B: PathIndex, L: Ledger>(
     expr: &PathExpr,
     blank: Blank,
 ) -> Result<Answer, AskError>
-    requires open { IsSome engine.old.opened }
+    requires open { IsOpened engine.old }
     requires sound { IsSound (by_meaning B.meaning engine.old) }
     requires name { blank.name ≡ L.name }
     requires parts { blank.parts ≡ L.parts }
     requires some { 0 < blank.parts }
-    ensures open { IsSome engine.new.opened }
+    ensures open { IsOpened engine.new }
     ensures sound { IsSound (by_meaning B.meaning engine.new) }
 {
     let mut steps = Steps::<L>::new(blank);
@@ -137,9 +138,9 @@ fn found<B: PathIndex, L: Ledger>(
 
 /// Whether the path has no answer in the graph itself.
 fn finds_none<B: PathIndex>(engine: &mut Engine<B>, alloc: Global, path: &str) -> bool
-    requires open { IsSome engine.old.opened }
+    requires open { IsOpened engine.old }
     requires sound { IsSound (by_meaning B.meaning engine.old) }
-    ensures open { IsSome engine.new.opened }
+    ensures open { IsOpened engine.new }
     ensures sound { IsSound (by_meaning B.meaning engine.new) }
 {
     let Ok(expr) = PathExpr::parse(alloc, path.as_bytes(), &FEW) else {
@@ -195,7 +196,7 @@ fn shelf_of(alloc: Global, script: &str) -> Option<MemShelf> {
 
 /// Whether it ends so; none where there is no memory for its files.
 fn ends_so<B: PathIndex>(alloc: Global, engine: &mut Engine<B>, allocated: &Run) -> Option<bool>
-    requires closed { engine.old.opened ≡ None }
+    requires closed { IsClosed engine.old }
     requires sound { IsSound (by_meaning B.meaning engine.old) }
 {
     let words = script_words(alloc)?;

@@ -1,6 +1,7 @@
 // The 1-index of an engine with all indexes, over graphs that it is opened with.
-ghost use Rattle.std.specs.Prelude.{◌≡◌, ◌<◌, None, IsSome};
+ghost use Rattle.std.specs.Prelude.{◌≡◌, ◌<◌};
 ghost use Rattle.pathindex_core.specs.Engines.{IsSound, by_meaning};
+ghost use Rattle.pathindex_core.specs.EngineTerms.{IsClosed, IsOpened};
 
 use crate::calls::{lists, opens};
 use crate::full_tests::{adds_both, makes};
@@ -38,9 +39,9 @@ const APART: &str = "blocks 4\na n0\nb n1\na n2\nb n3\n";
 
 /// Whether they come apart once an edge of one goes.
 fn come_apart<B: PathIndex>(engine: &mut Engine<B>, alloc: Global) -> bool
-    requires open { IsSome engine.old.opened }
+    requires open { IsOpened engine.old }
     requires sound { IsSound (by_meaning B.meaning engine.old) }
-    ensures open { IsSome engine.new.opened }
+    ensures open { IsOpened engine.new }
     ensures sound { IsSound (by_meaning B.meaning engine.new) }
 {
     lists(engine, alloc, Via::One, Some(TOGETHER))
@@ -50,9 +51,9 @@ fn come_apart<B: PathIndex>(engine: &mut Engine<B>, alloc: Global) -> bool
 
 /// Whether they stay so when it comes again.
 fn stay_apart<B: PathIndex>(engine: &mut Engine<B>, alloc: Global) -> bool
-    requires open { IsSome engine.old.opened }
+    requires open { IsOpened engine.old }
     requires sound { IsSound (by_meaning B.meaning engine.old) }
-    ensures open { IsSome engine.new.opened }
+    ensures open { IsOpened engine.new }
     ensures sound { IsSound (by_meaning B.meaning engine.new) }
 {
     makes(engine, alloc, Step::Link(2, 3)) && lists(engine, alloc, Via::One, Some(APART))
@@ -60,9 +61,9 @@ fn stay_apart<B: PathIndex>(engine: &mut Engine<B>, alloc: Global) -> bool
 
 /// Whether they come apart, and stay so.
 fn part<B: PathIndex>(engine: &mut Engine<B>, alloc: Global) -> bool
-    requires open { IsSome engine.old.opened }
+    requires open { IsOpened engine.old }
     requires sound { IsSound (by_meaning B.meaning engine.old) }
-    ensures open { IsSome engine.new.opened }
+    ensures open { IsOpened engine.new }
     ensures sound { IsSound (by_meaning B.meaning engine.new) }
 {
     come_apart(engine, alloc) && stay_apart(engine, alloc)
@@ -70,7 +71,7 @@ fn part<B: PathIndex>(engine: &mut Engine<B>, alloc: Global) -> bool
 
 /// Whether two rings come apart in an engine that is opened with them, and stay so.
 fn opens_and_parts<B: PathIndex>(engine: &mut Engine<B>, alloc: Global, graph: Graph) -> bool
-    requires closed { engine.old.opened ≡ None }
+    requires closed { IsClosed engine.old }
     requires sound { IsSound (by_meaning B.meaning engine.old) }
 {
     opens(engine, Some(graph), Limits::program()) && part(engine, alloc)
@@ -92,9 +93,9 @@ fn adds_ring<B: PathIndex>(
     first: NodeId,
     second: NodeId,
 ) -> bool
-    requires open { IsSome engine.old.opened }
+    requires open { IsOpened engine.old }
     requires sound { IsSound (by_meaning B.meaning engine.old) }
-    ensures open { IsSome engine.new.opened }
+    ensures open { IsOpened engine.new }
     ensures sound { IsSound (by_meaning B.meaning engine.new) }
 {
     makes(engine, alloc, Step::Link(first, second))
@@ -103,9 +104,9 @@ fn adds_ring<B: PathIndex>(
 
 /// Adds the nodes of two rings.
 fn adds_nodes<B: PathIndex>(engine: &mut Engine<B>, alloc: Global) -> bool
-    requires open { IsSome engine.old.opened }
+    requires open { IsOpened engine.old }
     requires sound { IsSound (by_meaning B.meaning engine.old) }
-    ensures open { IsSome engine.new.opened }
+    ensures open { IsOpened engine.new }
     ensures sound { IsSound (by_meaning B.meaning engine.new) }
 {
     adds_both(engine, alloc, "a", "b") && adds_both(engine, alloc, "a", "b")
@@ -113,9 +114,9 @@ fn adds_nodes<B: PathIndex>(engine: &mut Engine<B>, alloc: Global) -> bool
 
 /// Adds two rings, edge by edge.
 fn adds_rings<B: PathIndex>(engine: &mut Engine<B>, alloc: Global) -> bool
-    requires open { IsSome engine.old.opened }
+    requires open { IsOpened engine.old }
     requires sound { IsSound (by_meaning B.meaning engine.old) }
-    ensures open { IsSome engine.new.opened }
+    ensures open { IsOpened engine.new }
     ensures sound { IsSound (by_meaning B.meaning engine.new) }
 {
     adds_nodes(engine, alloc) && adds_ring(engine, alloc, 0, 1) && adds_ring(engine, alloc, 2, 3)
@@ -123,9 +124,9 @@ fn adds_rings<B: PathIndex>(engine: &mut Engine<B>, alloc: Global) -> bool
 
 /// Whether they are together or apart: both lists are stable, and of neither two blocks can be merged.
 fn are_lawful<B: PathIndex>(engine: &mut Engine<B>, alloc: Global) -> bool
-    requires open { IsSome engine.old.opened }
+    requires open { IsOpened engine.old }
     requires sound { IsSound (by_meaning B.meaning engine.old) }
-    ensures open { IsSome engine.new.opened }
+    ensures open { IsOpened engine.new }
     ensures sound { IsSound (by_meaning B.meaning engine.new) }
 {
     lists(engine, alloc, Via::One, Some(TOGETHER)) || lists(engine, alloc, Via::One, Some(APART))
@@ -133,7 +134,7 @@ fn are_lawful<B: PathIndex>(engine: &mut Engine<B>, alloc: Global) -> bool
 
 /// Whether two rings that come edge by edge, as in `examples/rings.script`, are in a lawful list.
 fn comes_to_law<B: PathIndex>(engine: &mut Engine<B>, alloc: Global) -> bool
-    requires closed { engine.old.opened ≡ None }
+    requires closed { IsClosed engine.old }
     requires sound { IsSound (by_meaning B.meaning engine.old) }
 {
     opens(engine, Graph::new(alloc).ok(), Limits::program())
