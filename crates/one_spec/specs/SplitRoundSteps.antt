@@ -19,11 +19,14 @@ pub record IsSplitRound (s : Shape) (p p2 : List (Option ℕ)) (moved next : ℕ
 
 -- each block of p2 lies within one of p
 pub record IsRefinement (p p2 : List (Option ℕ)) : Type 0 where
+  -- nodes that are together in p2 are together in p
   pub within : (u v : ℕ) → Together p2 u v → Together p u v
 
 -- nodes that don't pass are together in the one exactly where they are in the other
 pub record SameBut (p p2 : List (Option ℕ)) (but : ℕ → Bool) : Type 0 where
+  -- from p to p2
   pub into : (u v : ℕ) → IsFalse (but u) → IsFalse (but v) → Together p u v → Together p2 u v
+  -- from p2 to p
   pub back : (u v : ℕ) → IsFalse (but u) → IsFalse (but v) → Together p2 u v → Together p u v
 
 -- Where the nodes that are examined go: each is of a group, whose nodes were together and alike; a group goes to a block of

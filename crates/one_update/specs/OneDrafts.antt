@@ -87,8 +87,11 @@ pub record IsBefore (a : Pending) (q : Quotient) : Type 0 where
 -- The base was stable, and no two of its blocks could be merged; nodes of both graphs that the change doesn't reach are
 -- shown together exactly as in it. Nothing is said of the nodes that it reaches.
 pub record KeepsUnreached (g : Graph) (c : List Step) (block shown : List (Option ℕ)) : Type 0 where
+  -- the base is stable
   pub stable : Stable (shape_of g) block
+  -- no two blocks of the base can be merged
   pub minimal : Minimal (shape_of g) block
+  -- two nodes of both graphs that the change doesn't reach are shown together exactly where they are in the base
   pub outside : (u v : ℕ) → IsNode (shape_of g) u → IsNode (shape_of g) v → IsNode (shape_of (after c g)) u → IsNode (shape_of (after c g)) v
       → IsFalse (reached g c u) → IsFalse (reached g c v) → Together shown u v ↔ Together block u v
 

@@ -99,8 +99,11 @@ pub record IsReadied (e f : EngineSeen) (via : Via) (result : Result (Unit {0}) 
 -- The view is that of an index that is kept: it fits the graph, exactly the nodes have a block, and two of them have the same one exactly
 -- where the index relates them.
 pub record IsViewIn (e : EngineSeen) (via : Via) (v : View) : Type 0 where
+  -- the view fits the graph
   pub fits : FitsVia via (graph_in e.opened) v
+  -- exactly the nodes have a block
   pub nodes : IsPartition (shape_of (graph_in e.opened)) v.block_of
+  -- two nodes have the same block exactly where the index relates them
   pub shows : ShowsIndex (graph_in e.opened) (kept_in e) via (together v.block_of)
 
 -- the index isn't kept, or it is the forward and backward index, whose view may be not computed

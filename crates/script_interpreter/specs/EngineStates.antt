@@ -17,13 +17,20 @@ state_of meaning e n = state_in (by_meaning meaning e) n
 
 -- the engine is open with the limits of the program, and its indexes fit its graph
 pub record IsOpen (e : EngineSeen) : Type 0 where
+  -- no two indexes are of one kind, and each fits the graph
   pub sound : IsSound e
+  -- what is open: a graph, limits and a highest level
   pub opened : Opened
+  -- the engine has it open
   pub opened_is : IsSeenOpenedAs e opened
+  -- the limits are those of the program
   pub limits_are : opened.limits ≡ program_limits
 
 -- the engine is open, and has the graph and the indexes of the state
 pub record IsIn (e : EngineSeen) (s : State) : Type 0 where
+  -- the engine is open
   pub is_open : IsSeenOpen e
+  -- its graph is that of the state
   pub graph : seen_graph e ≡ s.graph
+  -- so are its indexes
   pub kept : kept_in e ≡ s.kept
