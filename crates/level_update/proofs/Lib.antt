@@ -10,3 +10,4 @@ pub mod EffectLevels
 pub mod RelabelledLevels
 pub mod EffectTargets
 pub mod JoinedNodes
+pub mod CostExamples
