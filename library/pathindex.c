@@ -39,8 +39,8 @@ enum call {
     SAVE = 17
 };
 
-/* The numbers of what is told (`told` there). */
-enum told { HOW = 0, COUNT = 1, NUMBER = 2, NODES = 3, EDGES = 4, NEXT = 5 };
+/* The numbers of what is reported (`reported` there). */
+enum reported { HOW = 0, COUNT = 1, NUMBER = 2, NODES = 3, EDGES = 4, NEXT = 5 };
 
 static const uint32_t none[1] = {0};
 
@@ -51,11 +51,11 @@ static int call(pathindex *p, enum call number, uint32_t a, uint32_t b, const vo
     return (int)pathindex_c_call(p->held, number, a, b, bytes_of(text), text ? length : 0);
 }
 
-static uint64_t told(pathindex *p, enum told which) { return p->held ? pathindex_c_told(p->held, which) : 0; }
+static uint64_t reported(pathindex *p, enum reported which) { return p->held ? pathindex_c_told(p->held, which) : 0; }
 
-/* Writes what the last call told, where that was carried out. */
+/* Writes what the last call reported, where that was carried out. */
 static int with_count(pathindex *p, int code, uint64_t *count) {
-    if (code == PATHINDEX_OK && count) *count = told(p, COUNT);
+    if (code == PATHINDEX_OK && count) *count = reported(p, COUNT);
     return code;
 }
 
@@ -66,7 +66,7 @@ int pathindex_open(pathindex *p, const void *triples, size_t length, uint32_t k,
     if (!p->held) return PATHINDEX_NO_MEMORY;
     pathindex_c_new(none, p->held);
     code = call(p, OPEN, k, flags, triples, length);
-    if (line && code != PATHINDEX_OK) *line = told(p, COUNT);
+    if (line && code != PATHINDEX_OK) *line = reported(p, COUNT);
     if (code != PATHINDEX_OK) pathindex_close(p);
     return code;
 }
@@ -82,7 +82,7 @@ void pathindex_close(pathindex *p) {
 int pathindex_node(pathindex *p, const void *label, size_t length, uint32_t *node) {
     int code = call(p, NODE, 0, 0, label, length);
     /* in a group no node is added yet */
-    if (code == PATHINDEX_OK && node && told(p, COUNT) == 1) *node = (uint32_t)told(p, NUMBER);
+    if (code == PATHINDEX_OK && node && reported(p, COUNT) == 1) *node = (uint32_t)reported(p, NUMBER);
     return code;
 }
 
@@ -104,9 +104,9 @@ int pathindex_delete(pathindex *p, const void *triple, size_t length) { return c
 static int ask(pathindex *p, enum call language, uint32_t via, const void *text, size_t length, struct pathindex_answer *answer) {
     int code = call(p, language, via, 0, text, length);
     if (code == PATHINDEX_OK && answer) {
-        answer->count = told(p, COUNT);
-        answer->candidates = told(p, NUMBER);
-        answer->how = (uint32_t)told(p, HOW);
+        answer->count = reported(p, COUNT);
+        answer->candidates = reported(p, NUMBER);
+        answer->how = (uint32_t)reported(p, HOW);
     }
     return code;
 }
@@ -135,7 +135,7 @@ int pathindex_check(pathindex *p, uint32_t node, const uint32_t *walk, size_t co
     int code;
     if (!p->held) return PATHINDEX_MISUSE;
     code = (int)pathindex_c_check(p->held, node, walk ? walk : none, walk ? count : 0, bytes_of(text), text ? length : 0);
-    if (code == PATHINDEX_OK && shows) *shows = told(p, COUNT) == 1;
+    if (code == PATHINDEX_OK && shows) *shows = reported(p, COUNT) == 1;
     return code;
 }
 
@@ -153,9 +153,9 @@ size_t pathindex_text(pathindex *p, size_t first, void *bytes, size_t room) {
 
 int pathindex_forget(pathindex *p, uint32_t kind) { return call(p, FORGET, kind, 0, NULL, 0); }
 
-uint64_t pathindex_node_count(pathindex *p) { return told(p, NODES); }
-uint64_t pathindex_edge_count(pathindex *p) { return told(p, EDGES); }
-uint64_t pathindex_next(pathindex *p) { return told(p, NEXT); }
+uint64_t pathindex_node_count(pathindex *p) { return reported(p, NODES); }
+uint64_t pathindex_edge_count(pathindex *p) { return reported(p, EDGES); }
+uint64_t pathindex_next(pathindex *p) { return reported(p, NEXT); }
 
 const char *pathindex_word(int code) {
     switch (code) {

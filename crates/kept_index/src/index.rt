@@ -61,8 +61,8 @@ impl<K: KeptViews> KeptIndex<K> {
     }
 }
 
-// Stages what a change will make of the index, without a count of its steps.
-fn prepare_uncounted<K: KeptViews, L: Ledger>(
+// Stages what a change will make of the index, with a count of steps of its own.
+fn counted_prepare<K: KeptViews, L: Ledger>(
     index: &mut KeptIndex<K>,
     graph: &Graph,
     change: &Change,
@@ -94,7 +94,7 @@ impl<K: KeptViews> PathIndex for KeptIndex<K> {
     }
 
     fn prepare(&mut self, graph: &Graph, change: &Change) -> Result<(), Memory> {
-        prepare_uncounted::<K, Brand>(self, graph, change, Blank::new(1))
+        counted_prepare::<K, Brand>(self, graph, change, Blank::new(1))
     }
 
     fn commit(&mut self) {

@@ -105,6 +105,7 @@ fn led_block(summary: &Summary, numbers: &KeyNumbers, k: u32, key: &[u32]) -> Op
     ensures leads { (b : ℕ) → (result ≡ Some b) ↔ (key_at (block_keys summary.now.blocks.labels numbers.now) b ≡ Some key.now) }
     ensures block { IfSome result (IsBlock summary.now.blocks) }
 {
+    // The contract alone reads the key.
     let _ = key;
     match numbers.block(k) {
         Some(b) => if is_led(summary, numbers, k, b) {

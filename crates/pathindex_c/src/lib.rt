@@ -9,7 +9,7 @@ ghost use Rattle.std.specs.Borrow.{full_share, sem};
 ghost use Rattle.std.specs.Ptr.{lies_at, room_at};
 ghost use base.Fml.{fex};
 ghost use Rattle.pathindex_calls.specs.contracts.held.Held.{the_row as held};
-ghost use Rattle.pathindex_calls.specs.Calls.{IsCalled, IsChecked, IsTold, IsEmpty, CopiesFound, found_nodes, found_walk, found_text};
+ghost use Rattle.pathindex_calls.specs.Calls.{IsCalled, IsChecked, IsReported, IsEmpty, CopiesFound, found_nodes, found_walk, found_text};
 
 use pathindex_calls::Held;
 use std::alloc::Global;
@@ -59,15 +59,15 @@ pub unsafe extern "C" fn pathindex_c_check(at: *mut u8, node: u32, walk: &[u32],
     held.check(node, walk, text)
 }
 
-/// `Held::told`: a number of the last reply, or of the graph.
+/// `Held::reported`: a number of the last reply, or of the graph.
 #[unsafe(no_mangle)]
 pub unsafe extern "C" fn pathindex_c_told(at: *mut u8, which: u32) -> u64
     ghost value: { Held }
     requires* { sem 𝓛 (lies_at held full_share at value) }
-    ensures* { sem 𝓛 (fex Held (λ after. fex (IsTold which value after result) (λ _. lies_at held full_share at after))) }
+    ensures* { sem 𝓛 (fex Held (λ after. fex (IsReported which value after result) (λ _. lies_at held full_share at after))) }
 {
     let held = unsafe { &mut *(at as *mut Held) };
-    held.told(which)
+    held.reported(which)
 }
 
 /// `Held::copy_nodes`: copies the answers that were found last.

@@ -93,9 +93,9 @@ abbrev pub next_in : Option SessionOf → ℕ
 next_in None = 0
 next_in (Some s) = length (graph_of s).allocated
 
--- what is told of the last call and of the graph
-abbrev pub told : Held → ℕ → ℕ
-told h which =
+-- what is reported of the last call and of the graph
+abbrev pub reported : Held → ℕ → ℕ
+reported h which =
     if nat_eq which 0 then h.reply.how
     else if nat_eq which 1 then h.reply.count
     else if nat_eq which 2 then h.reply.number
@@ -104,9 +104,11 @@ told h which =
     else if nat_eq which 5 then next_in h.session
     else 0
 
--- That is told, and all stays.
-pub record IsTold (which : ℕ) (h i : Held) (number : ℕ) : Type 0 where
-  pub told_is : number ≡ told h which
+-- That is reported, and all stays.
+pub record IsReported (which : ℕ) (h i : Held) (number : ℕ) : Type 0 where
+  -- the number is the one that was asked for
+  pub reported_is : number ≡ reported h which
+  -- all that is held stays
   pub same : i ≡ h
 
 -- nothing is held: no session is open

@@ -1,7 +1,7 @@
 // What a caller in another language holds.
 ghost use Rattle.std.specs.Prelude.{◌≡◌, ◌≤◌, None};
 ghost use Rattle.pathindex_calls.specs.Requests.{LevelsAreFew};
-ghost use Rattle.pathindex_calls.specs.Calls.{IsCalled, IsChecked, IsTold, IsEmpty, CopiesFound, Opens, AsksSession, Calls, ChecksSession, nodes_in, edges_in, next_in, found_nodes, found_walk, found_text};
+ghost use Rattle.pathindex_calls.specs.Calls.{IsCalled, IsChecked, IsReported, IsEmpty, CopiesFound, Opens, AsksSession, Calls, ChecksSession, nodes_in, edges_in, next_in, found_nodes, found_walk, found_text};
 
 use crate::commands::obey;
 use crate::copying::copy_part;
@@ -91,7 +91,7 @@ fn check_walk(
     }
 }
 
-// What is told of the graph.
+// What is reported of the graph.
 fn node_count(session: &Option<Session>) -> u64
     ensures { result ≡ nodes_in session.now }
 {
@@ -165,8 +165,8 @@ impl Held {
 
     /// A number of the last reply, or of the graph: 0 for how answers were found, 1 for the count, 2 for the number, 3 for the
     /// nodes of the graph, 4 for its edges, 5 for the number that its next node gets. O(1), no memory.
-    pub fn told(&mut self, which: u32) -> u64
-        ensures { IsTold which self.old self.new result }
+    pub fn reported(&mut self, which: u32) -> u64
+        ensures { IsReported which self.old self.new result }
     {
         match which {
             0 => u64::from(self.reply.how),

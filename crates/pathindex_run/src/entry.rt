@@ -81,10 +81,10 @@ pub fn run<B: PathIndex, H: Shelf, K: Sink>(
         (K.faults sink.old) (K.faults sink.new) result }
     ensures dropped { (file : List ℕ) → form_of (map string_bytes words.now) ≡ checks file → result ≢ 7
         → engine_kinds B.meaning engine.new ≡ [] }
-    ensures made { (seed : ℕ) → form_of (map string_bytes words.now) ≡ makes seed → NoFault (K.faults sink.old) (K.faults sink.new)
+    ensures seed { (seed : ℕ) → form_of (map string_bytes words.now) ≡ makes seed → NoFault (K.faults sink.old) (K.faults sink.new)
         → (result ≤ 1) ⊎ (result ≡ 7) }
     ensures files { H.files shelf.new ≡ H.files shelf.old }
-    ensures idle { ¬ NamesFile (form_of (map string_bytes words.now)) → shelf.new ≡ shelf.old }
+    ensures shelf_kept { ¬ NamesFile (form_of (map string_bytes words.now)) → shelf.new ≡ shelf.old }
 {
     let status = run_words(alloc, words, engine, shelf, sink);
     status.code()
@@ -111,10 +111,10 @@ fn run_words<B: PathIndex, H: Shelf, K: Sink>(
         (K.faults sink.old) (K.faults sink.new) (code_of result) }
     ensures dropped { (file : List ℕ) → form_of (map string_bytes words.now) ≡ checks file → code_of result ≢ 7
         → engine_kinds B.meaning engine.new ≡ [] }
-    ensures made { (seed : ℕ) → form_of (map string_bytes words.now) ≡ makes seed → NoFault (K.faults sink.old) (K.faults sink.new)
+    ensures seed { (seed : ℕ) → form_of (map string_bytes words.now) ≡ makes seed → NoFault (K.faults sink.old) (K.faults sink.new)
         → (code_of result ≤ 1) ⊎ (code_of result ≡ 7) }
     ensures files { H.files shelf.new ≡ H.files shelf.old }
-    ensures idle { ¬ NamesFile (form_of (map string_bytes words.now)) → shelf.new ≡ shelf.old }
+    ensures shelf_kept { ¬ NamesFile (form_of (map string_bytes words.now)) → shelf.new ≡ shelf.old }
 {
     match read_words(alloc, words) {
         Ok(Form::Run(settings)) => run_settings(alloc, &settings, engine, shelf, sink),

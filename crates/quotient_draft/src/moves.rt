@@ -72,7 +72,8 @@ impl Moves {
     pub(crate) fn know_lookups(&self)
         ensures { AreLookedUp self.now.moves }
     {
-        let _ = self.moves.len();
+        // Called for its contract: each node has one move.
+        let _known = self.moves.len();
     }
 
     /// Drafts a move, and notes the block from which the node is taken.

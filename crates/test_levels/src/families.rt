@@ -90,7 +90,8 @@ fn check_made(rt: &impl Abort, family: &AkFamily, draft: &mut AkDraft) -> Result
 {
     let b = family.keyed_block(draft, 1, 1, &[1, 1])?;
     assert!(rt; leads(family, draft, &[1, 1], Some(b)));
-    let _ = family.k();
+    // Called for its contract: the family is keyed.
+    let _known = family.k();
     draft.clear();
     assert!(rt; leads(family, draft, &[1, 1], None));
     Ok(())

@@ -18,29 +18,29 @@ fn finds(held: &mut Held, first: u32, second: u32) -> bool {
 /// Asks a path through the 1-index, and why its second answer is one.
 fn asks(rt: &impl Abort, held: &mut Held) {
     assert!(rt; held.call(11, 33, 0, KNOWN) == 0);
-    assert!(rt; held.told(0) == 1 && held.told(1) == 2 && held.told(2) == 2);
+    assert!(rt; held.reported(0) == 1 && held.reported(1) == 2 && held.reported(2) == 2);
     assert!(rt; finds(held, 0, 2));
     assert!(rt; held.call(12, 16, 0, b"iri[\\<x:knows>]") == 0);
-    assert!(rt; held.call(13, 2, 0, KNOWN) == 0 && held.told(1) == 2);
+    assert!(rt; held.call(13, 2, 0, KNOWN) == 0 && held.reported(1) == 2);
     let mut walk = [0u32; 2];
     assert!(rt; held.copy_walk(1, &mut walk) == 1 && walk[0] == 2);
-    assert!(rt; held.check(2, &[1, 2], KNOWN) == 0 && held.told(1) == 1);
+    assert!(rt; held.check(2, &[1, 2], KNOWN) == 0 && held.reported(1) == 1);
 }
 
 /// Makes each change, alone and in a group, so that Bo knows Ana in the end.
 fn changes(rt: &impl Abort, held: &mut Held) {
     assert!(rt; held.call(9, 0, 0, b"<x:bo> <x:knows> <x:ana> .") == 0);
-    assert!(rt; held.told(1) == 1 && held.told(2) == 3);
+    assert!(rt; held.reported(1) == 1 && held.reported(2) == 3);
     assert!(rt; held.call(6, 0, 0, b"") == 0);
     assert!(rt; held.call(1, 0, 0, b"note") == 0);
     assert!(rt; held.call(2, 0, 4, b"") == 0);
-    assert!(rt; held.told(3) == 4);
+    assert!(rt; held.reported(3) == 4);
     assert!(rt; held.call(7, 0, 0, b"") == 0);
-    assert!(rt; held.told(1) == 1 && held.told(2) == 4);
+    assert!(rt; held.reported(1) == 1 && held.reported(2) == 4);
     assert!(rt; held.call(3, 0, 4, b"") == 0);
     assert!(rt; held.call(5, 4, 0, b"memo") == 0);
     assert!(rt; held.call(4, 4, 0, b"") == 0);
-    assert!(rt; held.told(3) == 4 && held.told(4) == 4 && held.told(5) == 5);
+    assert!(rt; held.reported(3) == 4 && held.reported(4) == 4 && held.reported(5) == 5);
 }
 
 /// What is refused, and by which code.
@@ -75,7 +75,7 @@ fn a_session_is_called_by_numbers(rt: HostRuntime) -> Result<(), Fail> {
     asks(&rt, &mut held);
     refuses(&rt, &mut held);
     lists(&rt, &mut held);
-    assert!(rt; held.call(0, 2, 0, b"\n<x:ana>") == 6 && held.told(1) == 2);
+    assert!(rt; held.call(0, 2, 0, b"\n<x:ana>") == 6 && held.reported(1) == 2);
     held.close();
     Ok(())
 }

@@ -13,12 +13,12 @@ use denote.Plain.{uint_Lawful}
 use denote.Memory.{mem, part_at}
 use denote.Lend.{lends_ref, ref_back}
 use Rattle.pathindex_calls.specs.contracts.held.Held.{the_row as R}
-use Rattle.pathindex_calls.specs.Calls.{IsTold}
+use Rattle.pathindex_calls.specs.Calls.{IsReported}
 use Rattle.pathindex_c.specs.contracts.pathindex_c_told as f
 use Rattle.pathindex_c.proofs.pathindex_c_told.Statement.{statement}
 use Rattle.pathindex_c.proofs.pathindex_c_told.Code as code
-use Rattle.pathindex_calls.specs.contracts.held.Held.told as g
-use Rattle.pathindex_calls.proofs.held.Held.told.Met.{met}
+use Rattle.pathindex_calls.specs.contracts.held.Held.reported as g
+use Rattle.pathindex_calls.proofs.held.Held.reported.Met.{met}
 
 abbrev stayed : Stays f.ended.signature.params f.ended.kept
 stayed = (stay_dropped _ yes, (stay_dropped _ yes, tt))
@@ -49,17 +49,17 @@ pathindex_c_told_spec 𝓤 𝓛 𝓜 𝓡 wired =
     let z : G.Ghost = (((α ∷ [], tt), (full_share, tt), tt, (lent, (x, tt)), (vptr b o ∷ [], (uint_vals w32 x, tt))), tt) in
     nothing ! $ owned ! u32 _ (uint_Makes 𝓛 w32) x _ (refl, are.1.0.1) $ join ! $ move ! (1 ∷ 0 ∷ []) $ join ! $
     nothing ! $ move ! (3 ∷ 0 ∷ []) $ join ! $ join ! $ nothing ! $ move ! (1 ∷ 0 ∷ []) $ use2 𝓛 (raw (G.pre z)) (id⊢ 𝓤 _) $
-    calls_at ! (framed 𝓤 𝓛.H 𝓜 (tables 𝓤 𝓛.H 𝓜 𝓡 𝓡.env)) G (met 𝓤 𝓛 𝓜 𝓡 (code.calls-pathindex_calls::held::Held::told 𝓡.env wired)) z
+    calls_at ! (framed 𝓤 𝓛.H 𝓜 (tables 𝓤 𝓛.H 𝓜 𝓡 𝓡.env)) G (met 𝓤 𝓛 𝓜 𝓡 (code.calls-pathindex_calls::held::Held::reported 𝓡.env wired)) z
     (and_then ! (get ! refl) (and_then ! (get ! refl) (no_more !))) (λ w.
     use1 𝓛 (later (some (λ (r : ℕ). ((‵ (flft (α ∷ []) full_share) ⊛ ‵ ftrue) ⊛ ‵ (u64.own_val r (w ∷ []))) ⊛
-    some (λ (ws : R.Denot × (Unit {0} × Unit {0})). ‵ (lasts g.ended z.0.0 z.0.3 ws) ⊛ raw (fact 𝓤 (IsTold x v ws.0 r)))))) (id⊢ 𝓤 _) $
+    some (λ (ws : R.Denot × (Unit {0} × Unit {0})). ‵ (lasts g.ended z.0.0 z.0.3 ws) ⊛ raw (fact 𝓤 (IsReported x v ws.0 r)))))) (id⊢ 𝓤 _) $
     await ! tt $ pick ! (λ r. split ! $ split ! $ split ! $ lft_end ! tt $ move ! (2 ∷ []) $
     peeks ! u64 (Is u64) (shows 𝓛 u64) r (w ∷ []) (λ is. lands_as ! refl refl ((uint_Lawful 𝓛 w64).typed r _ is).0 $
-    move ! (3 ∷ []) $ pick ! (λ ws. split ! $ move ! (1 ∷ []) $ heard ! _ (λ told. fsplit ! $ fsplit ! $
+    move ! (3 ∷ []) $ pick ! (λ ws. split ! $ move ! (1 ∷ []) $ heard ! _ (λ reported. fsplit ! $ fsplit ! $
     -- [the loan's last value; its borrow; nothing; the result; α is over; nothing; what the lender keeps; the locals]
     move ! (4 ∷ 6 ∷ 0 ∷ []) $ use3 𝓛 (later (‵ (part_at R full_share ws.0 b o))) (ref_back 𝓛 R (α ∷ []) δ ws.0 b o) $ await ! tt $
     returns ! (look_at ! 0 refl) $ free_all ! refl $ keep ! (0 ∷ 3 ∷ []) $
     suffices ! _ (ends_at 𝓛 f.ended stayed c (y (block_ptr b o)) w r (tt, (tt, tt)) (tt, (tt, tt))) $
-    fpack ! (IsTold x v ws.0 r) (λ _. lies_at R full_share (block_ptr b o) ws.0) told $
-    fpack ! R.Denot (λ u. fex (IsTold x v u r) (λ _. lies_at R full_share (block_ptr b o) u)) ws.0 $ move ! (1 ∷ []) $
+    fpack ! (IsReported x v ws.0 r) (λ _. lies_at R full_share (block_ptr b o) ws.0) reported $
+    fpack ! R.Denot (λ u. fex (IsReported x v u r) (λ _. lies_at R full_share (block_ptr b o) u)) ws.0 $ move ! (1 ∷ []) $
     nothing ! $ nothing ! $ join ! $ nothing ! $ join ! $ nothing ! $ group ! 3 $ done !))))))))))

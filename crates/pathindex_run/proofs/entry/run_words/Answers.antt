@@ -28,8 +28,8 @@ returns-in-Ok-Make-clause-complete g c =
     rw (← e) (made_completes c.in-Ok-Make.seed (kinds_of (map g.B.PathIndex.meaning c.args.engine.now.boxes)) (g.H.Shelf.files c.args.shelf.now) _ _ _ _ _ _
     (IsIn (by_meaning g.B.PathIndex.meaning c.run_made.new.engine)) c.run_made.ensures.does c.run_made.ensures.status)
 
-pub returns-in-Ok-Make-clause-made : goal.returns-in-Ok-Make-clause-made
-returns-in-Ok-Make-clause-made g c = λ seed e f.
+pub returns-in-Ok-Make-clause-seed : goal.returns-in-Ok-Make-clause-seed
+returns-in-Ok-Make-clause-seed g c = λ seed e f.
     made_ends c.in-Ok-Make.seed (kinds_of (map g.B.PathIndex.meaning c.args.engine.now.boxes)) _ _ _ _ _ (IsIn (by_meaning g.B.PathIndex.meaning c.run_made.new.engine)) c.run_made.ensures.does c.run_made.ensures.status f
 
 pub returns-in-Ok-Check-clause-does : goal.returns-in-Ok-Check-clause-does

@@ -1,4 +1,4 @@
 use Rattle.kept_index.proofs.index.KeptIndexPathIndex.prepare.Given as goal
 
-abbrev pub ghosts-prepare_uncounted : goal.ghosts-prepare_uncounted
-ghosts-prepare_uncounted g a = record { name = a.blank.name; parts = a.blank.parts }
+abbrev pub ghosts-counted_prepare : goal.ghosts-counted_prepare
+ghosts-counted_prepare g a = record { name = a.blank.name; parts = a.blank.parts }
