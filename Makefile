@@ -8,10 +8,10 @@ PROGRAM := crates/pathindex_main
 COUNTER := crates/example_count
 LIBRARY := crates/pathindex_c
 PICTURES := crates/pathindex_dot
-# what the kit's heap calls the C library by
+# the part of the kit through which its heap calls the C library
 HEAP = $(dir $(realpath $(shell command -v rt)))../c/liblibc_c.a
-# How many crates `make run` takes in hand at a time: far more than there are cores, since most of them wait for a crate below. Each that is
-# proved takes up to 2 GB, and about six are at once.
+# How many crates `make run` starts at a time: far more than there are cores, since most of them wait for a crate below. Each proof takes up
+# to 2 GB, and about six run at once.
 JOBS ?= 14
 NEEDS_RT = command -v rt >/dev/null || { echo "make $@: the command rt of the Rattle kit isn't on the path" >&2; exit 1; }
 
@@ -63,7 +63,7 @@ library:
 	@echo 'Proving and building the library. The first time takes about half an hour on four cores; bin/library.log lists the crates that are proved.'
 	@(cd $(LIBRARY) && rt all check --jobs $(JOBS) && rt lib) >bin/library.log 2>&1 || { status=$$?; cat bin/library.log; exit $$status; }
 	tools/build_library.sh $(LIBRARY)/out/libpathindex_c.a $(HEAP) bin
-	@echo 'bin/libpathindex.a and bin/libpathindex.so are built; include/pathindex.h and python/pathindex.py stand over them.'
+	@echo 'bin/libpathindex.a and bin/libpathindex.so are built; include/pathindex.h and python/pathindex.py use them.'
 
 pictures:
 	@$(NEEDS_RT)

@@ -1,8 +1,8 @@
 #!/usr/bin/env python3
 """Prints how long and how many things are in this repository: measure_house.py [TIMES], where TIMES is a file that tools/time_gate.py wrote.
 
-The source lines over 160 bytes, indentation included, the functions with more than twelve clauses of their own, the words of README.md and docs/, the
-must-fail edits and the longest source files; and, from TIMES, the table of what each crate takes of the processor.
+The source lines over 160 bytes, indentation included, the functions with more than twelve clauses of their own, the words of README.md and
+docs/*.md, the must-fail edits and the longest source files; and, from TIMES, the table of what each crate takes of the processor.
 """
 import pathlib
 import re
@@ -49,7 +49,7 @@ def show_contracts():
 
 def show_words():
     words = {page.relative_to(ROOT): len(page.read_text().split()) for page in [ROOT / "README.md", *sorted(ROOT.glob("docs/*.md"))]}
-    show(f"words, {sum(words.values())} on all pages", [f"{page} {count}" for page, count in words.items()])
+    show(f"words on README and docs/*.md, {sum(words.values())} together (man pages are apart); pages", [f"{page} {count}" for page, count in words.items()])
 
 
 def edits():
