@@ -96,7 +96,7 @@ fn moved(front: &Front<'_>, at: EdgeBefore, u: NodeId, v: NodeId, n: NodeId) -> 
     ensures there { (s : Made) → drop at.place front.now ≡ s ∷ drop (at.place + 1) front.now → result.there ≡ edge_by s u v at.there }
 {
     // Called for its contract: places are numbers of 64 bits.
-    let _known = front.len();
+    let _len = front.len();
     EdgeBefore {
         place: front.next_naming(at.place + 1, n),
         there: edge_by(front.step(at.place), u, v, at.there),
