@@ -49,7 +49,7 @@ def show_contracts():
 
 def show_words():
     words = {page.relative_to(ROOT): len(page.read_text().split()) for page in [ROOT / "README.md", *sorted(ROOT.glob("docs/*.md"))]}
-    show(f"words on README and docs/*.md, {sum(words.values())} together (man pages are apart); pages", [f"{page} {count}" for page, count in words.items()])
+    show(f"words on README and docs/*.md; man pages are apart; {sum(words.values())} in all, pages", [f"{page} {count}" for page, count in words.items()])
 
 
 def edits():
