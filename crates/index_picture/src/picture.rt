@@ -17,8 +17,9 @@ use std::alloc::Global;
 use std::marker::Brand;
 use std::sync::ledger::{Blank, Ledger};
 
-const HEAD: &[u8] =
-    b"digraph pathindex {\n  rankdir=TB; nodesep=0.25; ranksep=0.45;\n  node [fontname=\"Helvetica\" fontsize=11 shape=box style=\"filled,rounded\" penwidth=0.8 margin=\"0.12,0.06\"];\n  edge [fontname=\"Helvetica\" fontsize=9 arrowsize=0.7 color=\"#555555\"];\n";
+const HEAD: &[u8] = b"digraph pathindex {\n  rankdir=TB; nodesep=0.25; ranksep=0.45;\n\
+\x20 node [fontname=\"Helvetica\" fontsize=11 shape=box style=\"filled,rounded\" penwidth=0.8 margin=\"0.12,0.06\"];\n\
+\x20 edge [fontname=\"Helvetica\" fontsize=9 arrowsize=0.7 color=\"#555555\"];\n";
 
 // Appends the lines of blocks.
 fn push_boxes(
