@@ -2,6 +2,7 @@ pub mod PutLists
 pub mod Scanned
 mod Spans
 pub mod DraftedMoves
+pub mod Emptied
 mod Over
 mod Examples
 pub mod AppliedDrafts

@@ -9,6 +9,7 @@ ghost use Rattle.quotient_draft.specs.Retired.{IsRetired};
 ghost use Rattle.quotient_draft.specs.Basis.{AreLeastFree};
 ghost use Rattle.quotient_draft.specs.Scans.{from_after};
 
+use crate::emptying::empty_table;
 use crate::retiring::retire_if_empty;
 use indexmap::IndexMap;
 use label_graph::Digraph;
@@ -122,7 +123,7 @@ impl Added {
     pub(crate) fn clear(&mut self)
         ensures { self.new ≡ [] }
     {
-        self.blocks.clear();
+        empty_table(&mut self.blocks);
     }
 
     /// A number past each block as shown.

@@ -8,6 +8,7 @@ ghost use Rattle.quotient_draft.specs.Drafts.{with_supports, is_pair, SetsPair, 
 ghost use Rattle.quotient_draft.specs.ReservedCapacity.{from_count, onto_count};
 ghost use Rattle.quotient_draft.specs.Basis.{ArePairsOfBlocks};
 
+use crate::emptying::empty_table;
 use crate::ends::{Ends, ends_of, note, reserve_more};
 use indexmap::IndexMap;
 use px_base::Memory;
@@ -165,8 +166,8 @@ impl Changed {
     pub(crate) fn clear(&mut self)
         ensures { self.new ≡ [] }
     {
-        self.pairs.clear();
-        self.from.clear();
-        self.onto.clear();
+        empty_table(&mut self.pairs);
+        empty_table(&mut self.from);
+        empty_table(&mut self.onto);
     }
 }

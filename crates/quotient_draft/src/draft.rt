@@ -189,7 +189,8 @@ impl Draft {
         Ok(())
     }
 
-    /// Drops all that is drafted. O(t) for t entries at the largest size that the draft has had, no memory.
+    /// Drops all that is drafted. The memory of small tables is kept, that of large ones given back. O(d) for d entries that are
+    /// drafted, no memory.
     pub fn clear(&mut self)
         ensures empty { self.new ≡ no_changes }
         ensures over { (block labels : List (Option ℕ)) → IsOver block labels self.new }

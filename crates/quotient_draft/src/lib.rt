@@ -11,6 +11,7 @@ mod changed;
 mod counts;
 mod draft;
 mod each_member;
+mod emptying;
 mod ends;
 mod members;
 mod moves;

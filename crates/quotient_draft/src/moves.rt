@@ -11,6 +11,7 @@ ghost use Rattle.quotient_draft.specs.PutLogs.{has_put, is_kept, is_moved_to};
 ghost use Rattle.quotient_draft.specs.ShownMembers.{is_unmoved};
 
 use crate::counts::{count_of, count_one};
+use crate::emptying::{empty_list, empty_table};
 use crate::put_log::PutLog;
 use indexmap::IndexMap;
 use key_table::sort_dedup;
@@ -264,10 +265,10 @@ impl Moves {
         ensures left { self.new.left ≡ [] }
         ensures taken { self.new.taken ≡ [] }
     {
-        self.moves.clear();
-        self.left.clear();
-        self.into.clear();
-        self.taken.clear();
+        empty_table(&mut self.moves);
+        empty_list(&mut self.left);
+        empty_table(&mut self.into);
+        empty_table(&mut self.taken);
         self.puts.clear();
     }
 }

@@ -3,6 +3,7 @@ ghost use Rattle.std.specs.Prelude.{◌≡◌, ◌<◌, ◌++◌, ◌∷◌, [],
 ghost use Rattle.quotient_draft.specs.PutLogs.{goes_to, last_put};
 
 use crate::counts::count_of;
+use crate::emptying::{empty_list, empty_table};
 use indexmap::IndexMap;
 use px_base::{Memory, NodeId};
 use std::alloc::Global;
@@ -81,8 +82,8 @@ impl PutLog {
     pub(crate) fn clear(&mut self)
         ensures { self.new ≡ [] }
     {
-        self.puts.clear();
-        self.before.clear();
-        self.last.clear();
+        empty_list(&mut self.puts);
+        empty_list(&mut self.before);
+        empty_table(&mut self.last);
     }
 }
