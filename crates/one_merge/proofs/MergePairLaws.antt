@@ -1,13 +1,15 @@
 -- What the tables say of pairs that can be merged.
-use Rattle.std.proofs.Common.{◌≡◌, ◌≢◌, ℕ, zero, suc, ◌+◌, ◌<◌, ◌≤◌, ◌⊎◌, List, [], ◌∷◌, ◌++◌, length, take, Option, Some, None, IsTrue, refl, sym, ◌∙◌, ap, subst, arith, inl, inr, true, false, Bool, true≢false}
-use Rattle.std.specs.Prelude.{nat_eq, nat_lt, ◌||◌, ◌&&◌, not, IfNone, IfSome, get_or, cond}
-use Rattle.std.specs.List.{list_any}
+use Rattle.std.proofs.Common.{◌≡◌, ◌≢◌, ℕ, zero, suc, ◌+◌, ◌<◌, ◌≤◌, ◌⊎◌, List, [], ◌∷◌, length, take, Option, Some, None, IsTrue, refl, sym, ◌∙◌, ap, subst, arith, inl, inr, true, false, Bool, true≢false}
+use Rattle.std.specs.Prelude.{nat_eq, nat_lt, ◌||◌, ◌&&◌, not, IfNone, IfSome, get_or}
+use Rattle.std.specs.List.{list_any, IsDistinct}
+use Rattle.std.specs.Cmp.{nat_eq_equiv}
 use Rattle.std.proofs.lemmas.Bool.{cases_Bool, both_ways, or_cases, or_left, or_right, and_parts}
-use Rattle.std.proofs.lemmas.Bool.Decides.{Decides-eqb, eqb_tells}
+use Rattle.std.proofs.lemmas.Bool.Decides.{Decides-eqb}
 use Rattle.std.proofs.lemmas.List.{take_all}
+use Rattle.std.proofs.lemmas.Map.Made.{length-le_from_is_member}
 use Rattle.graph_spec.specs.Members.{has, at, Lists}
 use Rattle.graph_spec.specs.Shapes.{Shape}
-use Rattle.graph_spec.proofs.MemberLaws.{or_false, has_push, has_more}
+use Rattle.graph_spec.proofs.MemberLaws.{has_more}
 use Rattle.bisim_spec.proofs.MergeableBlocks.{mergeable_blocks}
 use Rattle.one_spec.specs.Merges.{IsMergeablePair, IsMerged, one_more, none, AreMergeCandidates}
 use Rattle.one_spec.specs.Viewed.{IsViewed, IsMergedToEnd}
@@ -131,30 +133,16 @@ take_end xs i n over h = ap (λ ys. has ys n) (take_all i xs over) ∙ h
 
 -- numbers in lists
 
--- what is inserted is there, and all that was
-pub has_inserted : (xs ys : List ℕ) (y n : ℕ) → ys ≡ cond (has xs y) xs (xs ++ y ∷ []) → has ys n ≡ (has xs n || nat_eq n y)
-has_inserted xs ys y n e = ap (λ zs. has zs n) e ∙ by (has xs y) refl
-  where
-    by : (t : Bool) → has xs y ≡ t → has (cond t xs (xs ++ y ∷ [])) n ≡ (has xs n || nat_eq n y)
-    by false k = has_push xs y n
-    by true k = elim (eqb_tells n y) [
-      | inl s ↦ ap (has xs) s.1 ∙ k ∙ sym (or_right (has xs n) (nat_eq n y) s.0)
-      | inr d ↦ sym (ap (λ t. has xs n || t) d.0 ∙ or_false (has xs n))
-    ]
-
-pub all_more : (xs : List ℕ) (i d n : ℕ) (old now new : Bool) → i < length xs → now ≡ (old || has (take i xs) n) → new ≡ (now || nat_eq n (get_or xs i d)) → new ≡ (old || has (take (i + 1) xs) n)
-all_more xs i d n old now new h before step =
-    step ∙ ap (λ t. t || nat_eq n (get_or xs i d)) before ∙ assoc old (has (take i xs) n) (nat_eq n (get_or xs i d)) ∙ ap (λ t. old || t) (sym (has_more xs i d n h))
-  where
-    assoc : (a b c : Bool) → ((a || b) || c) ≡ (a || (b || c))
-    assoc true b c = refl
-    assoc false b c = refl
-
-pub push_cases : (xs ys : List ℕ) (y n : ℕ) → ys ≡ xs ++ y ∷ [] → has ys n ≡ true → (has xs n ≡ true) ⊎ (n ≡ y)
-push_cases xs ys y n e h = elim (or_cases (has xs n) (nat_eq n y) (sym (ap (λ zs. has zs n) e ∙ has_push xs y n) ∙ h)) [
+-- a candidate is the one that was taken off, or one still
+taken_cases : (xs ys : List ℕ) (a n : ℕ) → ((c : ℕ) → has ys c ≡ (has xs c || nat_eq c a)) → has ys n ≡ true → (has xs n ≡ true) ⊎ (n ≡ a)
+taken_cases xs ys a n e h = elim (or_cases (has xs n) (nat_eq n a) (sym (e n) ∙ h)) [
   | inl there ↦ inl there
-  | inr here ↦ inr ((Decides-eqb n y).0 here)
+  | inr here ↦ inr ((Decides-eqb n a).0 here)
 ]
+
+-- numbers that stand once in a list are no more than a list has that has them too
+pub fewer_once : (xs ys : List ℕ) → IsDistinct nat_eq xs → ((c : ℕ) → has xs c ≡ has ys c) → length xs ≤ length ys
+fewer_once xs ys once same = length-le_from_is_member nat_eq_equiv xs ys once (λ c h. sym (same c) ∙ h)
 
 -- what holds of the numbers below one, and of the next one
 pub more_hold : (P : ℕ → Type 0) (xs : List ℕ) (i d : ℕ) → i < length xs → ((b : ℕ) → IsTrue (has (take i xs) b) → P b) → P (get_or xs i d) → (b : ℕ) → IsTrue (has (take (i + 1) xs) b) → P b
@@ -164,30 +152,30 @@ more_hold P xs i d h before here b k = elim (or_cases (has (take i xs) b) (nat_e
 ]
 
 -- a candidate with nothing to merge with is none any more
-pub cleared : (s : Shape) (p : List (Option ℕ)) (labels : ℕ → Option ℕ) (adjacent : ℕ → ℕ → Bool) (xs ys : List ℕ) (a : ℕ) → IsViewed s p labels adjacent → ys ≡ xs ++ a ∷ []
+pub cleared : (s : Shape) (p : List (Option ℕ)) (labels : ℕ → Option ℕ) (adjacent : ℕ → ℕ → Bool) (xs ys : List ℕ) (a : ℕ) → IsViewed s p labels adjacent → ((c : ℕ) → has ys c ≡ (has xs c || nat_eq c a))
     → ((b : ℕ) → AreNotMergeable p labels adjacent a b) → AreMergeCandidates s p (λ b. IsTrue (has ys b)) → AreMergeCandidates s p (λ b. IsTrue (has xs b))
 cleared s p labels adjacent xs ys a v e lone h =
-    candidates_cleared s p (λ b. IsTrue (has ys b)) (λ b. IsTrue (has xs b)) a v.stable.partition h (λ b can. lone b s v can) (λ b k. elim (push_cases xs ys a b e k) [
+    candidates_cleared s p (λ b. IsTrue (has ys b)) (λ b. IsTrue (has xs b)) a v.stable.partition h (λ b can. lone b s v can) (λ b k. elim (taken_cases xs ys a b e k) [
       | inl there ↦ inr there
       | inr same ↦ inl same
     ])
 
 -- the candidate that was taken off is one of the pair
-pub candidates_or : (s : Shape) (p : List (Option ℕ)) (xs ys : List ℕ) (a x y : ℕ) → ys ≡ xs ++ a ∷ [] → (a ≡ x) ⊎ (a ≡ y) → AreMergeCandidates s p (λ b. IsTrue (has ys b))
+pub candidates_or : (s : Shape) (p : List (Option ℕ)) (xs ys : List ℕ) (a x y : ℕ) → ((c : ℕ) → has ys c ≡ (has xs c || nat_eq c a)) → (a ≡ x) ⊎ (a ≡ y) → AreMergeCandidates s p (λ b. IsTrue (has ys b))
     → AreMergeCandidates s p (λ b. ((b ≡ x) ⊎ (b ≡ y)) ⊎ IsTrue (has xs b))
 candidates_or s p xs ys a x y e one h = record { one = λ b c can. elim (h.one b c can) [ inl k ↦ inl (flip b k) | inr k ↦ inr (flip c k) ] }
   where
     flip : (b : ℕ) → IsTrue (has ys b) → ((b ≡ x) ⊎ (b ≡ y)) ⊎ IsTrue (has xs b)
-    flip b k = elim (push_cases xs ys a b e k) [
+    flip b k = elim (taken_cases xs ys a b e k) [
       | inl there ↦ inr there
       | inr same ↦ inl (elim one [ inl f ↦ inl (same ∙ f) | inr f ↦ inr (same ∙ f) ])
     ]
 
-pub candidates_none : (s : Shape) (p : List (Option ℕ)) (xs : List ℕ) → xs ≡ [] → AreMergeCandidates s p (λ b. IsTrue (has xs b)) → AreMergeCandidates s p (λ b. ⊥)
+pub candidates_none : (s : Shape) (p : List (Option ℕ)) (xs : List ℕ) → ((c : ℕ) → has xs c ≡ false) → AreMergeCandidates s p (λ b. IsTrue (has xs b)) → AreMergeCandidates s p (λ b. ⊥)
 candidates_none s p xs e h = record { one = λ b c can. elim (h.one b c can) [ inl k ↦ inl (off b k) | inr k ↦ inr (off c k) ] }
   where
     off : (b : ℕ) → IsTrue (has xs b) → ⊥
-    off b k = true≢false (sym k ∙ ap (λ zs. has zs b) e)
+    off b k = true≢false (sym k ∙ e b)
 
 -- one pair more is merged
 pub merged_more : (s : Shape) (first p p2 : List (Option ℕ)) (labels labels2 : ℕ → Option ℕ) (adjacent adjacent2 : ℕ → ℕ → Bool) (merge_candidates rest after : List ℕ) (a b : ℕ)

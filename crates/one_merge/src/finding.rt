@@ -8,6 +8,7 @@ ghost use Rattle.one_merge.specs.MergeTests.{shown_adjacent};
 ghost use Rattle.one_merge.specs.ShownMerges.{ShowsSupportsOfGraph, AreShownMergeable, AreShownNotMergeable, HasNoOther, ListsOwnChildren};
 ghost use Rattle.one_merge.specs.ParentlessBlocks.{IsNoted, CoversShown};
 
+use crate::kept_blocks::KeptBlocks;
 use crate::members::{children_count, has_members};
 use crate::mergeable_pair::can_merge;
 use crate::parentless::ParentlessBlocks;
@@ -220,11 +221,27 @@ fn fill_candidates(
     Ok(())
 }
 
+// The block of the hint, where there is one and the first can be merged with it.
+fn find_kept(base: &Summary, draft: &Draft, a: u32, label: u32, hint: Option<u32>) -> Option<u32>
+    requires over { IsOver base.now.blocks.block_of base.now.blocks.labels draft.now }
+    requires graph { ShowsSupportsOfGraph base.now draft.now }
+    requires members { (n : ℕ) × (at (shown_blocks base.now draft.now) n ≡ Some a) }
+    requires label { at (shown_labels base.now draft.now) a ≡ Some label }
+    ensures some { IfSome result (AreShownMergeable base.now draft.now a) }
+{
+    let b = hint?;
+    if is_mergeable(base, draft, a, label, b) {
+        return Some(b);
+    }
+    None
+}
+
 // A block that can be merged with one that has no other parent than itself.
 fn find_mergeable_lone(
     base: &Summary,
     draft: &Draft,
     parentless: &ParentlessBlocks,
+    kept: &mut KeptBlocks,
     a: u32,
     list: &mut Vec<u32>,
 ) -> Result<Option<u32>, Memory>
@@ -236,12 +253,23 @@ fn find_mergeable_lone(
     ensures some { IfOk result (λ found. IfSome found (AreShownMergeable base.now draft.now a)) }
     ensures none { IfOk result (λ found. IfNone found ((b : ℕ) → AreShownNotMergeable base.now draft.now a b)) }
 {
-    fill_candidates(base, draft, parentless, a, draft.label(base, a), list)?;
+    let label = draft.label(base, a);
+    if let Some(b) = find_kept(base, draft, a, label, kept.ask(None, label)) {
+        return Ok(Some(b));
+    }
+    fill_candidates(base, draft, parentless, a, label, list)?;
+    kept.look_through(list.len());
     Ok(find_among(base, draft, a, list))
 }
 
 // A block that can be merged with a block, among another parent of it and the children of that one.
-fn find_mergeable_near(base: &Summary, draft: &Draft, a: u32, x: u32) -> Option<u32>
+fn find_mergeable_near(
+    base: &Summary,
+    draft: &Draft,
+    kept: &mut KeptBlocks,
+    a: u32,
+    x: u32,
+) -> Option<u32>
     requires over { IsOver base.now.blocks.block_of base.now.blocks.labels draft.now }
     requires graph { ShowsSupportsOfGraph base.now draft.now }
     requires members { (n : ℕ) × (at (shown_blocks base.now draft.now) n ≡ Some a) }
@@ -249,7 +277,12 @@ fn find_mergeable_near(base: &Summary, draft: &Draft, a: u32, x: u32) -> Option<
     ensures some { IfSome result (AreShownMergeable base.now draft.now a) }
     ensures none { IfNone result ((b : ℕ) → AreShownNotMergeable base.now draft.now a b) }
 {
-    if is_mergeable(base, draft, a, draft.label(base, a), x) {
+    let label = draft.label(base, a);
+    if let Some(b) = find_kept(base, draft, a, label, kept.ask(Some(x), label)) {
+        return Some(b);
+    }
+    kept.look_through(children_count(base, draft, x));
+    if is_mergeable(base, draft, a, label, x) {
         return Some(x);
     }
     if let Some(b) = find_among(base, draft, a, base_children(base, x)) {
@@ -258,11 +291,13 @@ fn find_mergeable_near(base: &Summary, draft: &Draft, a: u32, x: u32) -> Option<
     find_among(base, draft, a, draft.drafted_children(x))
 }
 
-/// A block that can be merged with this one, where it has members and there is one.
+/// A block that can be merged with this one, where it has members and there is one. The block that was kept last for the
+/// same parent and label is tested first.
 pub(crate) fn find_mergeable(
     base: &Summary,
     draft: &Draft,
     parentless: &ParentlessBlocks,
+    kept: &mut KeptBlocks,
     a: u32,
     list: &mut Vec<u32>,
 ) -> Result<Option<u32>, Memory>
@@ -276,7 +311,7 @@ pub(crate) fn find_mergeable(
         return Ok(None);
     }
     match other_parent(base, draft, a) {
-        Some(x) => Ok(find_mergeable_near(base, draft, a, x)),
-        None => find_mergeable_lone(base, draft, parentless, a, list),
+        Some(x) => Ok(find_mergeable_near(base, draft, kept, a, x)),
+        None => find_mergeable_lone(base, draft, parentless, kept, a, list),
     }
 }

@@ -3,6 +3,7 @@
 #![tactic(auto)]
 
 mod finding;
+mod kept_blocks;
 mod members;
 mod merge_candidates;
 mod mergeable_pair;

@@ -6,6 +6,7 @@ ghost use Rattle.one_merge.specs.ShownMerges.{ShowsSupportsOfGraph, AreShownMerg
 ghost use Rattle.one_merge.specs.ParentlessBlocks.{CoversBase, CoversShown};
 
 use crate::finding::find_mergeable;
+use crate::kept_blocks::KeptBlocks;
 use crate::members::larger_first;
 use crate::merge_candidates::MergeCandidates;
 use crate::one_block::merge_pair;
@@ -15,11 +16,12 @@ use quotient::Summary;
 use quotient_draft::Draft;
 use std::alloc::Global;
 
-// Lists of blocks, in memory that is reused.
+// Lists of blocks, in memory that is reused, and the blocks that were kept.
 #[derive(Drop)]
 struct Buffers {
     children: Vec<u32>,
     others: Vec<u32>,
+    kept: KeptBlocks,
 }
 
 impl Buffers {
@@ -27,6 +29,7 @@ impl Buffers {
         Buffers {
             children: Vec::new(alloc),
             others: Vec::new(alloc),
+            kept: KeptBlocks::new(alloc),
         }
     }
 }
@@ -37,6 +40,7 @@ fn next_pair(
     draft: &Draft,
     parentless: &ParentlessBlocks,
     merge_candidates: &mut MergeCandidates,
+    kept: &mut KeptBlocks,
     list: &mut Vec<u32>,
 ) -> Result<Option<(u32, u32)>, Memory>
     requires over { IsOver base.now.blocks.block_of base.now.blocks.labels draft.now }
@@ -47,8 +51,10 @@ fn next_pair(
     ensures none { IfOk result (λ pair. IfNone pair (NoTwoCanMerge base.now draft.now merge_candidates.old)) }
 {
     'look: while let Some(a) = merge_candidates.take() {
-        if let Some(b) = find_mergeable(base, draft, parentless, a, list)? {
-            return Ok(Some(larger_first(base, draft, a, b)));
+        if let Some(b) = find_mergeable(base, draft, parentless, kept, a, list)? {
+            let pair = larger_first(base, draft, a, b);
+            kept.note(pair.0)?;
+            return Ok(Some(pair));
         }
     }
     Ok(None)
@@ -95,6 +101,7 @@ fn merge_pairs(
         draft,
         parentless,
         merge_candidates,
+        &mut buffers.kept,
         &mut buffers.children,
     )? {
         draft.fill_children(base, b, &mut buffers.children)?;
@@ -113,7 +120,9 @@ fn merge_pairs(
 /// Of two blocks that are merged the one with fewer members and children is moved, and each block next to it is written
 /// once. A candidate is compared with another parent of it and that parent's children: a parent with few children is
 /// taken, or else the one with the fewest. Where it has no other parent than itself, it is compared with the blocks
-/// noted for its label, and with its children where it is a parent of itself.
+/// noted for its label, and with its children where it is a parent of itself. Where these are many, the block into which
+/// one with the same label was merged last comes first. So like blocks of one parent are merged in about one comparison
+/// each, and looked through once more at the end.
 ///
 /// Expected O(u k p) for u blocks that are examined, which are the merge candidates, and after each merge the
 /// merged block and the children of the smaller one, each with at most p parents and compared with at most k blocks;

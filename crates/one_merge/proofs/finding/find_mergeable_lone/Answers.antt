@@ -8,6 +8,6 @@ returns-clause-none c =
     let q = c.args.base.now in
     let d = c.args.draft.now in
     let found = c.in_ok-fill_candidates.ensures in
-    none_mergeable_lone c.find_among.result q d c.args.parentless.now c.args.a c.label.result c.deref.result.now c.requires.lone c.label.ensures c.requires.covers
-    (subst (AreCandidates (shown_support q d) c.args.parentless.now c.args.a c.label.result) (sym c.deref.ensures.value)
+    none_mergeable_lone c.find_among.result q d c.args.parentless.now c.args.a c.label-label.result c.deref.result.now c.requires.lone c.label-label.ensures c.requires.covers
+    (subst (AreCandidates (shown_support q d) c.args.parentless.now c.args.a c.label-label.result) (sym c.deref.ensures.value)
     (record { children = found.children; noted = found.noted })) c.find_among.ensures.none

@@ -11,4 +11,4 @@ returns-clause-none c =
     let d = c.args.draft.now in
     none_mergeable_near c.find_among-2.result (shown_blocks q d) (at (shown_labels q d)) (shown_support q d) (support_at q.supports) c.args.a c.args.x c.base_children.result.now c.drafted_children.result.now
     c.requires.parent.0 c.requires.parent.1 (c.is_mergeable.ensures.no (search rules)) c.base_children.ensures (λ b off. c.drafted_children.ensures q.supports b off)
-    (if_none c.find_among.result _ c.in_default.is c.find_among.ensures.none) c.find_among-2.ensures.none
+    (if_none c.find_among.result _ c.in_default-find_among.is c.find_among.ensures.none) c.find_among-2.ensures.none

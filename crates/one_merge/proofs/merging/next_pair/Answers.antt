@@ -8,8 +8,8 @@ use Rattle.one_merge.proofs.merging.next_pair.Goals as goal
 
 pub returns-in-Some-2-clause-rest : goal.returns-in-Some-2-clause-rest
 returns-in-Some-2-clause-rest c = λ s v h.
-    candidates_or s (shown_blocks c.args.base.now c.args.draft.now) c.take.new.self c.look.merge_candidates c.in-Some.a c.larger_first.result.0 c.larger_first.result.1 c.in-Some.ensures.some
-    c.larger_first.ensures.one (c.look.invariant s v h)
+    candidates_or s (shown_blocks c.args.base.now c.args.draft.now) c.take.new.self c.look.merge_candidates c.in-Some.a c.larger_first-pair.result.0 c.larger_first-pair.result.1 c.in-Some.ensures.some
+    c.larger_first-pair.ensures.one (c.look.invariant s v h)
 
 pub look-preserved : goal.look-preserved
 look-preserved c = λ s v h.
