@@ -7,6 +7,9 @@ gate doesn't run this.
 PROGRAM is run in place of bin/pathindex. Times are processor times, the best of some turns. That of a save is less that of a run that
 computes the same indexes. A check is a whole process; what it takes to read the file alone is that of a check of the same file without
 views.
+
+Then it has files checked that are made to be slow: at twice the size a check should take twice as long. In the view of `hub`, a chain that
+leads to one more node, all blocks have one label and one child. In that of `ring` each round of refinement parts two nodes from thousands.
 """
 import os
 import pathlib
@@ -18,6 +21,8 @@ ROOT = pathlib.Path(__file__).resolve().parent.parent
 MAKE = ROOT / "tools" / "make_triples.py"
 # shape, triples and turns
 CASES = [("dag", 200_000, 5), ("cyclic", 200_000, 5), ("deep", 200_000, 5), ("dag", 1_600_000, 2)]
+# nodes of the files that are made to be slow
+SLOW = [50_000, 100_000]
 
 
 def run(command, output=subprocess.DEVNULL):
@@ -71,6 +76,41 @@ def measure(program, folder, kind, count, turns):
     print(f"    --check  {taken['check'][0]:>8.2f} s, {taken['check'][1]:.0f} MB", flush=True)
 
 
+def write_file(file, labels, edges, via):
+    """Writes an index file with one view, in which each node has a block of its own."""
+    lines = ["pathindex 1", f"given {len(labels)} k 0", *(f"live {label}" for label in labels), f"edges {len(edges)}"]
+    lines += [*(f"{start} {end}" for start, end in sorted(edges)), "views 1", f"view {via}", *map(str, range(len(labels)))]
+    with open(file, "w") as out:
+        out.write("\n".join(lines) + "\n")
+
+
+def write_hub(file, count):
+    """A chain, of which each node leads to one more node."""
+    edges = [(n, n + 1) for n in range(count - 1)] + [(n, count) for n in range(count)]
+    write_file(file, ["a"] * (count + 1), edges, "one")
+
+
+def write_ring(file, count):
+    """A ring of six labels by turns. Another node leads to each but one of the first label, and one to each but one of the last label; these
+    are told from others of their labels in the first rounds alone."""
+    turns = count // 6
+    labels = ["p", "q", "h", "h", "t", "t", "g", "g"] + [f"r{n % 6}" for n in range(6 * turns)]
+    first, last = range(8, len(labels), 6), range(13, len(labels), 6)
+    edges = [(0, 2), (1, 3), (0, 4), (1, 5), (4, 6), (5, 7), (2, first[0]), (7, last[-1])]
+    edges += [(3, n) for n in first[1:]] + [(6, n) for n in last[:-1]]
+    edges += [(n, n + 1) for n in range(8, len(labels) - 1)] + [(len(labels) - 1, 8)]
+    write_file(file, labels, edges, "fb")
+
+
+def measure_slow(program, folder):
+    file = os.path.join(folder, "slow")
+    for kind, write in (("hub", write_hub), ("ring", write_ring)):
+        for count in SLOW:
+            write(file, count)
+            taken = best_of({"check": [program, "--check", file]}, 2)["check"]
+            print(f"{kind}, {count:,} nodes: --check  {taken[0]:>8.2f} s, {taken[1]:.0f} MB", flush=True)
+
+
 def main():
     if len(sys.argv) > 2:
         sys.exit(__doc__)
@@ -84,6 +124,7 @@ def main():
                 out.write(f"{line}\n")
         for case in CASES:
             measure(program, folder, *case)
+        measure_slow(program, folder)
 
 
 if __name__ == "__main__":

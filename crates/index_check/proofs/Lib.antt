@@ -4,6 +4,7 @@ pub mod NumberedNodes
 pub mod NeighbourBlocks
 pub mod OuterKeys
 pub mod ComparedLaws
+pub mod ListingLaws
 pub mod LevelLaws
 pub mod Stable
 pub mod MergeLaws

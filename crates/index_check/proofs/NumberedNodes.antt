@@ -123,13 +123,13 @@ numbered_all own base neighbour_of n keys next w within = record {
 }
 
 -- a numbered node has a block, and that is the number of its key
-record KeyAt (own : ℕ → Option ℕ) (base : List (Option ℕ)) (neighbour_of : ℕ → ℕ → Bool) (key : ℕ → Option (List ℕ)) (m k : ℕ) : Type 0 where
-  own_some : IsSome (own m)
-  numbers : List ℕ
-  at : key k ≡ Some numbers
-  is : IsKey own base neighbour_of m numbers
+pub record KeyAt (own : ℕ → Option ℕ) (base : List (Option ℕ)) (neighbour_of : ℕ → ℕ → Bool) (key : ℕ → Option (List ℕ)) (m k : ℕ) : Type 0 where
+  pub own_some : IsSome (own m)
+  pub numbers : List ℕ
+  pub at : key k ≡ Some numbers
+  pub is : IsKey own base neighbour_of m numbers
 
-key_of_block : (own : ℕ → Option ℕ) (base : List (Option ℕ)) (neighbour_of : ℕ → ℕ → Bool) (key : ℕ → Option (List ℕ)) (next : List (Option ℕ)) → AreNumbered own base neighbour_of next key
+pub key_of_block : (own : ℕ → Option ℕ) (base : List (Option ℕ)) (neighbour_of : ℕ → ℕ → Bool) (key : ℕ → Option (List ℕ)) (next : List (Option ℕ)) → AreNumbered own base neighbour_of next key
     → (m k : ℕ) → at next m ≡ Some k → KeyAt own base neighbour_of key m k
 key_of_block own base neighbour_of key next w m k e = elim (none_or_some (own m)) [
   | inl none ↦ absurd (let z = w.none m none in cc)

@@ -1,7 +1,10 @@
 -- A round over lists that were handed on.
 use Rattle.std.proofs.Common.{◌≡◌, ℕ, List, Option, subst, length}
 use Rattle.graph_spec.specs.Shapes.{Shape, IsShape}
+use Rattle.hash_index.specs.Items.{Items}
+use Rattle.index_check.specs.Listing.{IsListed, ListsMoved}
 use Rattle.index_check.specs.Waiting.{IsOnTheWay, AreGrouped, AreMoved, AreRenamed, AreAround}
+use Rattle.index_check.proofs.ListingLaws.{listed_still}
 use Rattle.index_check.proofs.WaitingLaws.{waiting_step}
 
 pub round_keeps : (s : Shape) (old new : List (Option ℕ)) (waiting groups groups2 groups3 names names2 names3 moved moved2 members next : List ℕ) → IsShape s → IsOnTheWay s old waiting
@@ -12,3 +15,12 @@ round_keeps s old new waiting groups groups2 groups3 names names2 names3 moved m
     (subst (λ x. AreMoved old waiting x names (length waiting) moved) eg (subst (λ y. AreMoved old waiting groups2 y (length waiting) moved) en m))
     (subst (λ x. AreRenamed old new waiting x names (length waiting)) fg (subst (λ y. AreRenamed old new waiting groups3 y (length waiting)) fm c))
     (subst (λ x. AreAround s.edge new members x next) em a)
+
+pub round_lists : (old new : List (Option ℕ)) (waiting groups groups2 groups3 names names2 names3 moved moved2 : List ℕ) (lists lists2 : Items ℕ) → IsListed old lists
+    → groups2 ≡ groups → names2 ≡ names → AreMoved old waiting groups2 names2 (length waiting) moved → groups3 ≡ groups → names3 ≡ names
+    → AreRenamed old new waiting groups3 names3 (length waiting) → moved2 ≡ moved → ListsMoved new moved2 lists lists2 → IsListed new lists2
+round_lists old new waiting groups groups2 groups3 names names2 names3 moved moved2 lists lists2 w eg en m fg fm c em l =
+    listed_still old new waiting groups names moved lists lists2 w
+    (subst (λ x. AreMoved old waiting x names (length waiting) moved) eg (subst (λ y. AreMoved old waiting groups2 y (length waiting) moved) en m))
+    (subst (λ x. AreRenamed old new waiting x names (length waiting)) fg (subst (λ y. AreRenamed old new waiting groups3 y (length waiting)) fm c))
+    (subst (λ x. ListsMoved new x lists lists2) em l)

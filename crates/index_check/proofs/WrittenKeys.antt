@@ -45,7 +45,7 @@ key_of own base neighbour_of n number nodes key l own_is w = record {
 }
 
 -- one key is that of one number, and of the same blocks
-parts_same : (xs ys : List ℕ) (x y : ℕ) → x ∷ xs ≡ y ∷ ys → (xs ≡ ys) × (x ≡ y)
+pub parts_same : (xs ys : List ℕ) (x y : ℕ) → x ∷ xs ≡ y ∷ ys → (xs ≡ ys) × (x ≡ y)
 parts_same xs ys x y e = (cc, cc)
 
 -- nodes of one key stay together, where neighbours have blocks

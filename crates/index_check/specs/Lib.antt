@@ -6,3 +6,4 @@ pub mod ComparedLists
 pub mod OuterParents
 pub mod BlockMerges
 pub mod Waiting
+pub mod Listing

@@ -1,8 +1,12 @@
 -- Parents of a node in other blocks, and in its own.
-use Rattle.std.specs.Prelude.{ℕ, ◌≡◌, ◌&&◌, not, Bool, List, Option, Some, None, IsTrue, if◌then◌else◌}
+use Rattle.std.specs.Prelude.{ℕ, ◌≡◌, ◌&&◌, not, Bool, List, Option, Some, None, IsTrue, slice_get, if◌then◌else◌}
 use Rattle.graph_spec.specs.Members.{at, is_this}
 use Rattle.bisim_spec.specs.Partitions.{Together}
 use Rattle.bisim_spec.specs.Tests.{together}
+use Rattle.bisim_spec.specs.declared.sides.Side.TheVariants.{Parents}
+use Rattle.index_check.specs.Keys.{IsKey}
+use Rattle.index_check.specs.NeighbourSides.{is_neighbour}
+use Rattle.index_check.specs.Refinement.{Share, StayTogether}
 
 -- p is a parent of n in another block
 abbrev pub is_outer_parent : List (Option ℕ) → (ℕ → ℕ → Bool) → ℕ → ℕ → Bool
@@ -30,3 +34,21 @@ outer_block own (Some b) = if is_this b own then None else Some b
 -- the block of p, where it isn't that of n
 abbrev pub outer_block_at : List (Option ℕ) → ℕ → ℕ → Option ℕ
 outer_block_at block n p = outer_block (at block n) (at block p)
+
+-- a key of the node, by all its parents, is in the table
+pub record HasWholeKey (own : ℕ → Option ℕ) (block : List (Option ℕ)) (edge : ℕ → ℕ → Bool) (keys : List (List ℕ)) (n : ℕ) : Type 0 where
+  pub number : ℕ
+  pub key : List ℕ
+  pub stands : slice_get keys number ≡ Some key
+  pub is : IsKey own block (is_neighbour Parents edge) n key
+
+-- the parents of u are in the same blocks as those parents of v that are in other blocks than v
+pub record MatchesOuter (block : List (Option ℕ)) (edge : ℕ → ℕ → Bool) (u v : ℕ) : Type 0 where
+  pub there : (p : ℕ) → IsTrue (edge p u) → (q : ℕ) × IsTrue (is_outer_parent block edge q v) × Together block p q
+  pub back : (q : ℕ) → IsTrue (is_outer_parent block edge q v) → (p : ℕ) × IsTrue (edge p u) × Together block q p
+
+-- Nodes with one number are in one block, if their parents in other blocks than their own are in the same blocks; and never are those of the
+-- one in the same blocks as all parents of the other.
+pub record TellsByOuter (own : ℕ → Option ℕ) (block : List (Option ℕ)) (edge : ℕ → ℕ → Bool) : Type 0 where
+  pub same : (u v : ℕ) → StayTogether own block (is_outer_parent block edge) u v → at block u ≡ at block v
+  pub apart : (u v : ℕ) → Share own u v → MatchesOuter block edge u v → ⊥

@@ -7,6 +7,7 @@ mod comparing;
 mod fitting;
 mod keys;
 mod levels;
+mod listing;
 mod merging;
 mod minimal;
 mod neighbour_lists;

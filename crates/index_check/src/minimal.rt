@@ -5,8 +5,8 @@ ghost use Rattle.index_check.specs.NumberedShapes.{digraph_shape};
 
 use crate::comparing::{are_both, determines};
 use crate::levels::label_list;
-use crate::merging::no_parent_merges;
-use crate::outer::{inner_labels, refine_by_outer};
+use crate::merging::refine_by_closed;
+use crate::outer::{inner_labels, tells_by_outer};
 use crate::refining::refine;
 use bisim_spec::Side;
 use label_graph::Digraph;
@@ -14,11 +14,13 @@ use px_base::Memory;
 use std::alloc::Global;
 
 /// Whether no two blocks of a stable partition can be merged (Yi et al. 2004). Two blocks of one label can be merged exactly where
-/// their parent blocks are the same once both count as one, so there are three cases, each one pass: no two blocks have the same
-/// parent blocks; no two that are their own parents have the same other parent blocks; and none can be merged with a parent block.
-/// The list is as for `fits_level`. `Memory` comes only where memory runs out. Expected O(n + m log m + b) for n node numbers, m
-/// edges and block numbers below b, and O(d log d) for each edge between two blocks of one label, where d is how many parents its
-/// ends have; it takes 32 bytes a number, the tables of keys, and 16 bytes for each number below b.
+/// their parent blocks are the same once both count as one. Where neither is a parent of the other, both have the same parent blocks, or
+/// both are their own parents and have the same others. Where each is a parent of the other, each with its parent blocks makes the same
+/// set. Where one alone is a parent of the other, it is its own parent, and has the parent blocks of the other without that one itself.
+/// Each is told by keys in one pass.
+///
+/// The list is as for `fits_level`. `Memory` comes only where memory runs out. Expected O(n + m log m + b) for n node numbers, m edges and
+/// block numbers below b; it takes 40 bytes a number, the tables of keys, and 16 bytes for each number below b.
 pub(crate) fn is_minimal<G: Digraph>(
     alloc: Global,
     g: &G,
@@ -29,10 +31,12 @@ pub(crate) fn is_minimal<G: Digraph>(
 {
     let labels = label_list(alloc, g)?;
     let next = refine(alloc, g, Side::Parents, &labels, block)?;
-    let inner = inner_labels(alloc, g, block)?;
-    let by_outer = refine_by_outer(alloc, g, &inner, block)?;
     let by_key = determines(alloc, &next, block)?;
-    let by_outer_key = determines(alloc, &by_outer, block)?;
-    let lacks = no_parent_merges(alloc, g, block)?;
-    Ok(are_both(are_both(by_key, by_outer_key), lacks))
+    // a node that has a parent of its label
+    let linked = inner_labels(alloc, g, &labels)?;
+    let closed = refine_by_closed(alloc, g, &linked, block)?;
+    let by_closed = determines(alloc, &closed, block)?;
+    let inner = inner_labels(alloc, g, block)?;
+    let by_outer = tells_by_outer(alloc, g, &inner, block)?;
+    Ok(are_both(are_both(by_key, by_closed), by_outer))
 }

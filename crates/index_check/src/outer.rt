@@ -1,11 +1,21 @@
 // Keys without the own block.
-ghost use Rattle.std.specs.Prelude.{◌≡◌, ◌↔◌, ℕ, List, Some, IsSome, IsTrue, IfOk};
+ghost use Rattle.std.specs.Prelude.{◌≡◌, ◌↔◌, [], ℕ, List, Some, IsSome, IsTrue, IfOk, slice_get};
 ghost use Rattle.graph_spec.specs.Members.{at};
 ghost use Rattle.key_table.specs.NumberedKeys.{AreDistinct, Interns};
 ghost use Rattle.index_check.specs.Keys.{IsWritten};
-ghost use Rattle.index_check.specs.Refinement.{Refines, Numbers};
-ghost use Rattle.index_check.specs.OuterParents.{is_outer_parent, AreInnerLabels, HasInnerParent, IsInnerLabel, outer_block_at, outer_block};
+ghost use Rattle.index_check.specs.Refinement.{AreNumbered, Numbers};
+ghost use Rattle.index_check.specs.OuterParents.{
+  is_outer_parent,
+  AreInnerLabels,
+  HasInnerParent,
+  IsInnerLabel,
+  HasWholeKey,
+  TellsByOuter,
+  outer_block_at,
+  outer_block,
+};
 
+use crate::comparing::{are_both, determines};
 use crate::keys::{block_of, write_key};
 use key_table::KeyTable;
 use label_graph::Digraph;
@@ -110,23 +120,111 @@ fn outer_number<G: Digraph>(
     }
 }
 
-/// The numbers `own`, refined by the other blocks of the nodes' parents.
-pub(crate) fn refine_by_outer<G: Digraph>(
+// The numbers `own`, refined by the other blocks of the nodes' parents, and the keys of these; at first there are none.
+fn number_by_outer<G: Digraph>(
     alloc: Global,
+    keys: &mut KeyTable,
+    key: &mut Vec<u32>,
     g: &G,
     own: &[Option<u32>],
     block: &[Option<u32>],
 ) -> Result<Vec<Option<u32>>, Memory>
+    requires none { keys.old ≡ [] }
     requires own { (n : ℕ) → IsSome (at own.now n) → IsSome (G.label_at g.now n) }
-    requires base { (n : ℕ) → IsSome (G.label_at g.now n) → IsSome (at block.now n) }
-    ensures { IfOk result (λ next. Refines (at own.now) block.now (is_outer_parent block.now (G.edge g.now)) next.items) }
+    ensures numbered { IfOk result (λ next. AreNumbered (at own.now) block.now (is_outer_parent block.now (G.edge g.now)) next.items (slice_get keys.new)) }
+    ensures distinct { IfOk result (λ next. AreDistinct keys.new) }
 {
-    let mut keys = KeyTable::new(alloc)?;
-    let mut key = Vec::new(alloc);
     let mut next = Vec::with_capacity(alloc, g.size() as usize)?;
     for n in 0..g.size() {
-        let number = outer_number(&mut keys, &mut key, g, own, block, n)?;
+        let number = outer_number(keys, key, g, own, block, n)?;
         next.push(number)?;
     }
     Ok(next)
+}
+
+// Whether the key is in the table.
+fn has_key(keys: &KeyTable, key: &[u32]) -> bool
+    ensures { IsTrue result ↔ ((k : ℕ) × (slice_get keys.now k ≡ Some key.now)) }
+{
+    keys.find(key).is_some()
+}
+
+// Whether the key of a node with all its parents is in the table.
+fn has_whole_key<G: Digraph>(
+    keys: &KeyTable,
+    key: &mut Vec<u32>,
+    g: &G,
+    own: &[Option<u32>],
+    block: &[Option<u32>],
+    n: u32,
+) -> Result<bool, Memory>
+    requires nodes { IsSome (at own.now n) → IsSome (G.label_at g.now n) }
+    requires base { (m : ℕ) → IsSome (G.label_at g.now m) → IsSome (at block.now m) }
+    ensures { IfOk result (λ yes. IsTrue yes ↔ HasWholeKey (at own.now) block.now (G.edge g.now) keys.now n) }
+{
+    match block_of(own, n) {
+        Some(number) => {
+            write_key(key, g.parents(n), number, |p| block_of(block, p))?;
+            Ok(has_key(keys, key))
+        }
+        None => Ok(false),
+    }
+}
+
+// Whether no such key is.
+fn lacks_whole_keys<G: Digraph>(
+    keys: &KeyTable,
+    key: &mut Vec<u32>,
+    g: &G,
+    own: &[Option<u32>],
+    block: &[Option<u32>],
+) -> Result<bool, Memory>
+    requires own { (n : ℕ) → IsSome (at own.now n) → IsSome (G.label_at g.now n) }
+    requires base { (n : ℕ) → IsSome (G.label_at g.now n) → IsSome (at block.now n) }
+    ensures { IfOk result (λ yes. IsTrue yes ↔ ((n : ℕ) → HasWholeKey (at own.now) block.now (G.edge g.now) keys.now n → ⊥)) }
+{
+    for n in 0..g.size() {
+        let has = has_whole_key(keys, key, g, own, block, n)?;
+        if has {
+            return Ok(false);
+        }
+    }
+    Ok(true)
+}
+
+// The same as `tells_by_outer`, by a table without keys.
+fn tells_with<G: Digraph>(
+    alloc: Global,
+    keys: &mut KeyTable,
+    key: &mut Vec<u32>,
+    g: &G,
+    own: &[Option<u32>],
+    block: &[Option<u32>],
+) -> Result<bool, Memory>
+    requires none { keys.old ≡ [] }
+    requires own { (n : ℕ) → IsSome (at own.now n) → IsSome (G.label_at g.now n) }
+    requires base { (n : ℕ) → IsSome (G.label_at g.now n) → IsSome (at block.now n) }
+    ensures { IfOk result (λ yes. IsTrue yes ↔ TellsByOuter (at own.now) block.now (G.edge g.now)) }
+{
+    let by_outer = number_by_outer(alloc, keys, key, g, own, block)?;
+    let apart = determines(alloc, &by_outer, block)?;
+    let lacks = lacks_whole_keys(keys, key, g, own, block)?;
+    Ok(are_both(apart, lacks))
+}
+
+/// Whether of nodes with one number in `own` no two of two blocks have parents in the same other blocks, and none has those parents in other
+/// blocks that are all the parents of another.
+pub(crate) fn tells_by_outer<G: Digraph>(
+    alloc: Global,
+    g: &G,
+    own: &[Option<u32>],
+    block: &[Option<u32>],
+) -> Result<bool, Memory>
+    requires own { (n : ℕ) → IsSome (at own.now n) → IsSome (G.label_at g.now n) }
+    requires base { (n : ℕ) → IsSome (G.label_at g.now n) → IsSome (at block.now n) }
+    ensures { IfOk result (λ yes. IsTrue yes ↔ TellsByOuter (at own.now) block.now (G.edge g.now)) }
+{
+    let mut keys = KeyTable::new(alloc)?;
+    let mut key = Vec::new(alloc);
+    tells_with(alloc, &mut keys, &mut key, g, own, block)
 }

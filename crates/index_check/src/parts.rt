@@ -25,11 +25,13 @@ fn put_at(numbers: &mut [u32], i: u32, number: u32) {
     }
 }
 
-/// How many members each block has, by its number, and the largest part of each block that was parted last. Numbers from `free` on are
-/// no blocks.
+/// How many members each block has, by its number, how many of them wait, how many nodes are on its list, and the largest part of each
+/// block that was parted last. Numbers from `free` on are no blocks.
 #[derive(Drop)]
 pub(crate) struct Sizes {
     pub(crate) members: Vec<u32>,
+    waiting: Vec<u32>,
+    listed: Vec<u32>,
     largest: Vec<u32>,
     free: u32,
 }
@@ -65,11 +67,34 @@ impl Sizes {
                 put_at(&mut members, *b, more);
             }
         }
+        let listed = members.to_vec(alloc)?;
         Ok(Sizes {
             members,
+            waiting: vec![in alloc; 0; free as usize]?,
+            listed,
             largest: vec![in alloc; 0; free as usize]?,
             free,
         })
+    }
+
+    /// Counts the waiting nodes of each block, where no block has any yet.
+    pub(crate) fn count_waiting(&mut self, block: &[Option<u32>], waiting: &[u32]) {
+        for n in waiting {
+            if let Some(b) = block_of(block, *n) {
+                let more = number_at(&self.waiting, b).wrapping_add(1);
+                put_at(&mut self.waiting, b, more);
+            }
+        }
+    }
+
+    /// Whether all members of the block should wait: some don't, more do, and most on its list are still in it. If most went away, the
+    /// members that wait go to new lists without those. The block is asked for once: it then has no waiting node any more.
+    pub(crate) fn takes_rest(&mut self, b: u32) -> bool {
+        let wait = number_at(&self.waiting, b);
+        let size = number_at(&self.members, b);
+        let rest = size.wrapping_sub(wait);
+        put_at(&mut self.waiting, b, 0);
+        0 < rest && rest < wait && number_at(&self.listed, b) / 8 <= size
     }
 }
 
@@ -138,6 +163,8 @@ fn name_part(sizes: &mut Sizes, part: Part, k: u32) -> Result<u32, Memory> {
     let name = sizes.free;
     sizes.free = name.wrapping_add(1);
     sizes.members.push(part.size)?;
+    sizes.waiting.push(0)?;
+    sizes.listed.push(part.size)?;
     sizes.largest.push(0)?;
     Ok(name)
 }

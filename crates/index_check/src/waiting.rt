@@ -17,12 +17,15 @@ ghost use Rattle.index_check.specs.Waiting.{
   is_shared,
   is_beside,
 };
+ghost use Rattle.index_check.specs.Listing.{IsListed};
 
 use crate::keys::{block_of, find_key};
 use crate::levels::label_list;
+use crate::listing::{list_all, list_moved, with_rest};
 use crate::neighbour_lists::neighbours;
 use crate::parts::{Sizes, is_shared, name_groups, number_at};
 use bisim_spec::Side;
+use hash_index::HashIndex;
 use key_table::{KeyTable, sort_dedup};
 use label_graph::Digraph;
 use px_base::Memory;
@@ -163,7 +166,8 @@ fn push_shared(
     members: &[u32],
     nodes: &[u32],
 ) -> Result<(), Memory>
-    ensures { OnOk result ((m : ℕ) → has next.new.items m ≡ (has next.old.items m || (has nodes.now m && is_shared members.now (at block.now m)))) }
+    ensures { OnOk result ((m : ℕ) → has next.new.items m
+        ≡ (has next.old.items m || (has nodes.now m && is_shared members.now (at block.now m)))) }
 {
     for n in nodes {
         if is_shared(members, block_of(block, *n)) {
@@ -181,7 +185,8 @@ fn push_around<G: Digraph>(
     members: &[u32],
     q: u32,
 ) -> Result<(), Memory>
-    ensures { OnOk result ((m : ℕ) → has next.new.items m ≡ (has next.old.items m || (is_beside (G.edge g.now) q m && is_shared members.now (at block.now m)))) }
+    ensures { OnOk result ((m : ℕ) → has next.new.items m
+        ≡ (has next.old.items m || (is_beside (G.edge g.now) q m && is_shared members.now (at block.now m)))) }
 {
     if !g.is_node(q) {
         return Ok(());
@@ -215,17 +220,39 @@ fn part_once<G: Digraph>(
     g: &G,
     block: &mut [Option<u32>],
     sizes: &mut Sizes,
+    lists: &mut HashIndex<u32>,
     waiting: &[u32],
 ) -> Result<Vec<u32>, Memory>
-    requires { IsOnTheWay (digraph_shape G.Digraph g.now) block.old waiting.now }
-    ensures { IfOk result (λ next. IsOnTheWay (digraph_shape G.Digraph g.now) block.new next.items) }
+    requires way { IsOnTheWay (digraph_shape G.Digraph g.now) block.old waiting.now }
+    requires listed { IsListed block.old lists.old }
+    ensures way { IfOk result (λ next. IsOnTheWay (digraph_shape G.Digraph g.now) block.new next.items) }
+    ensures listed { IfOk result (λ next. IsListed block.new lists.new) }
 {
     let groups = group(alloc, g, block, waiting)?;
     let names = name_groups(alloc, sizes, block, waiting, &groups)?;
     let moved = moved_nodes(alloc, block, waiting, &groups, &names)?;
     rename(block, waiting, &groups, &names);
+    list_moved(lists, block, &moved)?;
     let next = around(alloc, g, block, &sizes.members, &moved)?;
     Ok(next)
+}
+
+// The same, where all members of a block wait as soon as more of them do than don't.
+fn part_wider<G: Digraph>(
+    alloc: Global,
+    g: &G,
+    block: &mut [Option<u32>],
+    sizes: &mut Sizes,
+    lists: &mut HashIndex<u32>,
+    waiting: &[u32],
+) -> Result<Vec<u32>, Memory>
+    requires way { IsOnTheWay (digraph_shape G.Digraph g.now) block.old waiting.now }
+    requires listed { IsListed block.old lists.old }
+    ensures way { IfOk result (λ next. IsOnTheWay (digraph_shape G.Digraph g.now) block.new next.items) }
+    ensures listed { IfOk result (λ next. IsListed block.new lists.new) }
+{
+    let wider = with_rest(alloc, lists, block, sizes, waiting)?;
+    part_once(alloc, g, block, sizes, lists, &wider)
 }
 
 // All numbers below the size.
@@ -246,9 +273,11 @@ fn part_all<G: Digraph>(
     g: &G,
     block: &mut [Option<u32>],
     sizes: &mut Sizes,
+    lists: &mut HashIndex<u32>,
     first: Vec<u32>,
 ) -> Result<(), Memory>
-    requires { IsOnTheWay (digraph_shape G.Digraph g.now) block.old first.items }
+    requires way { IsOnTheWay (digraph_shape G.Digraph g.now) block.old first.items }
+    requires listed { IsListed block.old lists.old }
     ensures { OnOk result (IsCoarse (digraph_shape G.Digraph g.now) block.new) }
 {
     let mut waiting = first;
@@ -256,7 +285,7 @@ fn part_all<G: Digraph>(
         if waiting.is_empty() {
             return Ok(());
         }
-        let next = part_once(alloc, g, block, sizes, &waiting)?;
+        let next = part_wider(alloc, g, block, sizes, lists, &waiting)?;
         waiting = next;
     }
     Ok(())
@@ -265,15 +294,18 @@ fn part_all<G: Digraph>(
 /// A partition that is no finer than full bisimilarity by parents and children. It is that, where no node is left that waits after as many
 /// rounds as there are nodes.
 ///
-/// At first all nodes wait; then, of the nodes next to those that went to another block, those that aren't alone in theirs. The largest
-/// part of a block whose members all waited keeps its number. Expected O(n + m log m) for n node numbers and m neighbours of nodes that
-/// waited, each as often as it did; it takes 24 bytes a number, and the tables of the first round.
+/// At first all nodes wait; then, of the nodes next to those that went to another block, those that aren't alone in theirs, and with them
+/// their whole block if more of it wait than don't. The largest part of a block whose members all wait keeps its number, so nodes go to
+/// another block O(n log n) times together (J. Hopcroft, 1971). Expected O(n + m log m) for n node numbers and m neighbours of nodes that
+/// wait, each as often as it does: a node waits in each round after one in which a neighbour went to another block. It takes 60 bytes a
+/// number, 20 for each time that a node goes to another block, and the tables of the first round.
 pub(crate) fn part_waiting<G: Digraph>(alloc: Global, g: &G) -> Result<Vec<Option<u32>>, Memory>
     ensures { IfOk result (λ l. IsCoarse (digraph_shape G.Digraph g.now) l.items) }
 {
     let mut block = label_list(alloc, g)?;
     let mut sizes = Sizes::new(alloc, &block)?;
+    let mut lists = list_all(alloc, &block, g.size())?;
     let first = all_numbers(alloc, g.size())?;
-    part_all(alloc, g, &mut block, &mut sizes, first)?;
+    part_all(alloc, g, &mut block, &mut sizes, &mut lists, first)?;
     Ok(block)
 }

@@ -1,6 +1,10 @@
 use Rattle.index_check.specs.NumberedShapes.{digraph_shape}
+use Rattle.index_check.specs.Listing.{IsListed}
 use Rattle.index_check.specs.Waiting.{IsOnTheWay}
 use Rattle.index_check.proofs.waiting.part_all.Given as goal
 
 abbrev pub invariant-loop-round : goal.invariant-loop-round
-invariant-loop-round g l = IsOnTheWay (digraph_shape g.G.Digraph l.g) l.block l.waiting.items
+invariant-loop-round g l = record {
+  way : IsOnTheWay (digraph_shape g.G.Digraph l.g) l.block l.waiting.items;
+  listed : IsListed l.block l.lists;
+}

@@ -1,9 +1,9 @@
 use Rattle.std.proofs.Common.{arith}
 use Rattle.bisim_spec.specs.declared.sides.Side.TheVariants.{Parents}
+use Rattle.index_check.proofs.MergeLaws.{closed_block}
 use Rattle.index_check.proofs.NeighbourBlocks.{neighbour_block}
-use Rattle.index_check.proofs.OuterKeys.{outer_neighbour_block}
 use Rattle.index_check.proofs.NumberedNodes.{numbered_more, numbered_all, numbered_refines}
-use Rattle.index_check.proofs.outer.refine_by_outer.Goals as goal
+use Rattle.index_check.proofs.merging.refine_with.Goals as goal
 
 pub loop-n-preserved : goal.loop-n-preserved
 loop-n-preserved g c = record {
@@ -14,8 +14,8 @@ loop-n-preserved g c = record {
 pub returns : goal.returns
 returns g c =
     numbered_refines _ _ _ _ _
-    (outer_neighbour_block c.args.block.now (g.G.Digraph.edge c.args.g.now)
-    (neighbour_block Parents (g.G.Digraph.label_at c.args.g.now) (g.G.Digraph.edge c.args.g.now) c.args.block.now (g.met.G.Digraph.ends c.args.g.now) c.requires.base))
+    (closed_block c.args.base.now (g.G.Digraph.edge c.args.g.now)
+    (neighbour_block Parents (g.G.Digraph.label_at c.args.g.now) (g.G.Digraph.edge c.args.g.now) c.args.base.now (g.met.G.Digraph.ends c.args.g.now) c.requires.base))
     c.loop-n.invariant.distinct.apart
     (numbered_all _ _ _ _ _ _ c.loop-n.invariant.numbered (λ m h.
     let below = g.met.G.Digraph.below c.args.g.now m (c.requires.own m h) in

@@ -1,0 +1,11 @@
+use Rattle.key_table.specs.NumberedKeys.{AreDistinct}
+use Rattle.graph_spec.specs.Members.{at}
+use Rattle.index_check.specs.OuterParents.{is_outer_parent}
+use Rattle.index_check.proofs.NumberedNodes.{NumberedBelow}
+use Rattle.index_check.proofs.outer.number_by_outer.Given as goal
+
+abbrev pub invariant-loop-n : goal.invariant-loop-n
+invariant-loop-n g l = record {
+  numbered : NumberedBelow (at l.own) l.block (is_outer_parent l.block (g.G.Digraph.edge l.g)) l.n l.keys l.next.items;
+  distinct : AreDistinct l.keys;
+}
