@@ -1,5 +1,6 @@
 mod Examples
 mod ListedEdges
+mod GraphPartLaws
 mod RankedBlocks
 mod DecimalLaws
 mod WordLaws

@@ -12,6 +12,7 @@ pub mod Drafts
 pub mod SavedGraphs
 pub mod ReadSteps
 pub mod WrittenFiles
+pub mod GraphParts
 pub mod BlockRanks
 pub mod FittingViews
 pub mod SavedIndexes

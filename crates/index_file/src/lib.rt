@@ -3,6 +3,7 @@
 
 mod draft;
 mod due;
+mod graph_lines;
 mod graph_text;
 mod names;
 mod numbers;
@@ -16,6 +17,7 @@ mod saved;
 mod view_lines;
 mod words;
 
+pub use graph_lines::GraphLines;
 pub use graph_text::head;
 pub use reading::{SavedError, read};
 pub use saved::Saved;

@@ -16,6 +16,7 @@ use Rattle.index_api.specs.IndexOrder.{all_indexes}
 use Rattle.index_api.specs.IndexKinds.{KeptIndexes, is_kept}
 use Rattle.extent_report.specs.PrintedLists.{ShowsIndex}
 use Rattle.index_file.specs.WrittenFiles.{head_text, view_text}
+use Rattle.index_file.specs.GraphParts.{Gave}
 use Rattle.index_file.specs.SavedIndexes.{SavesIndex, SavesIndexes, SavesFile, count_kept}
 use Rattle.index_file.specs.WholeFiles.{HasLabels}
 use Rattle.pathindex_core.specs.Engines.{EngineSeen, graph_in, level_in, kept_in}
@@ -23,7 +24,7 @@ use Rattle.pathindex_core.specs.Calls.{KeepsAllButViews}
 use Rattle.script_interpreter.specs.EngineStates.{IsOpen}
 use Rattle.script_interpreter.specs.Indexes.{IsSaved, ShowsFile}
 use Rattle.script_interpreter.specs.States.{State}
-use Rattle.script_interpreter.specs.Pieces.{Wrote, WrotePart, SavesParts}
+use Rattle.script_interpreter.specs.Pieces.{Wrote, WrotePart, WroteNext, SavesParts}
 use Rattle.index_saving.proofs.SavedFileLaws.{first_more, all_taken, saves_append, saves_same, whole_file}
 
 -- nothing is a prefix of each text
@@ -42,6 +43,33 @@ pub prefix_more : (a c : Option (List ℕ)) (text rest : List ℕ) → AppendsPr
 prefix_more None c text rest q = tt
 prefix_more (Some x) None text rest q = absurd q
 prefix_more (Some x) (Some z) text rest q = (q.0, q.1 ++ rest, ap (λ t. t ++ rest) q.2 ∙ append_assoc q.0 q.1 rest, q.3)
+
+-- the lines that were given to an empty buffer, once they are written
+given_are : (before after left rest : List ℕ) → before ≡ [] → Gave before after left rest → left ≡ after ++ rest
+given_are before after left rest e x = x.left_is ∙ ap (λ t. t ++ rest) (sym (x.given ∙ ap (λ t. t ++ x.lines) e))
+
+pub next_written : (before after left rest : List ℕ) (a b : Option (List ℕ)) → before ≡ [] → Gave before after left rest → Appends a b after → WroteNext a b left rest
+next_written before after left rest a b e x w = record { text = after; written = w; left_is = given_are before after left rest e x }
+
+pub next_part : (before after left rest : List ℕ) (a b : Option (List ℕ)) → before ≡ [] → Gave before after left rest → AppendsPrefix a b after → AppendsPrefix a b left
+next_part before after left rest a b e x w = subst (AppendsPrefix a b) (sym (given_are before after left rest e x)) (prefix_more a b after rest w)
+
+-- one part after another
+pub no_part_yet : (a : Option (List ℕ)) (left : List ℕ) → WroteNext a a left left
+no_part_yet a left = record { text = []; written = Appends-nil a; left_is = refl }
+
+pub next_twice : (a b c : Option (List ℕ)) (left middle rest : List ℕ) → WroteNext a b left middle → WroteNext b c middle rest → WroteNext a c left rest
+next_twice a b c left middle rest x y = record {
+  text = x.text ++ y.text;
+  written = Appends-trans a b c x.text y.text x.written y.written;
+  left_is = x.left_is ∙ ap (λ t. x.text ++ t) y.left_is ∙ sym (append_assoc x.text y.text rest);
+}
+
+pub all_parts : (a b : Option (List ℕ)) (left rest : List ℕ) → rest ≡ [] → WroteNext a b left rest → Appends a b left
+all_parts a b left rest e x = subst (Appends a b) (sym (x.left_is ∙ ap (λ t. x.text ++ t) e ∙ append-nil x.text)) x.written
+
+pub part_behind : (a b c : Option (List ℕ)) (left rest : List ℕ) → WroteNext a b left rest → AppendsPrefix b c rest → AppendsPrefix a c left
+part_behind a b c left rest x w = subst (AppendsPrefix a c) (sym x.left_is) (prefix_behind a b c x.text rest x.written w)
 
 -- what is written of a text that is right in one sense is so in a wider one
 pub wrote_as : (Is As : List ℕ → Type 0) (a b : Option (List ℕ)) → ((text : List ℕ) → Is text → As text) → Wrote Is a b → Wrote As a b

@@ -20,6 +20,12 @@ pub record WrotePart (Is : List ℕ → Type 0) (old new : Option (List ℕ)) : 
   pub is : Is text
   pub written : AppendsPrefix old new text
 
+-- the first of what is left was written, and the rest is left
+pub record WroteNext (old new : Option (List ℕ)) (left rest : List ℕ) : Type 0 where
+  pub text : List ℕ
+  pub written : Appends old new text
+  pub left_is : left ≡ text ++ rest
+
 -- the lines of the graph, which say so many views, and then the views with levels up to k
 abbrev pub SavesParts : Graph → KeptIndexes → ℕ → ℕ → List ℕ → Type 0
 SavesParts g kept k count text = (lines : List ℕ) × SavesIndexes g kept (all_indexes k) lines × (text ≡ head_text g k count ++ lines)

@@ -1,11 +1,12 @@
 // The graph and the indexes that are kept, as an index file that is written part by part.
-ghost use Rattle.std.specs.Prelude.{◌≡◌, ◌≢◌, ◌<◌, ◌≤◌, Err, IsErrOf, OnOk, OnErr};
+ghost use Rattle.std.specs.Prelude.{◌≡◌, ◌≢◌, ◌<◌, ◌≤◌, Ok, Err, IsErrOf, OnOk, OnErr, true, false, length, []};
 ghost use Rattle.std.specs.Io.KnownBytes.{Appends};
 ghost use Rattle.px_base.specs.Causes.{MayHaveRisen};
 ghost use Rattle.px_base.specs.Files.{AppendsPrefix};
 ghost use Rattle.index_api.specs.declared.kinds.Via.TheVariants.{Data};
 ghost use Rattle.index_api.specs.IndexOrder.{all_indexes};
 ghost use Rattle.index_file.specs.WrittenFiles.{head_text};
+ghost use Rattle.index_file.specs.GraphParts.{lines_left};
 ghost use Rattle.index_file.specs.SavedIndexes.{SavesIndex, SavesIndexes};
 ghost use Rattle.index_file.specs.WholeFiles.{HasLabels};
 ghost use Rattle.pathindex_core.specs.Calls.{KeepsAllButViews};
@@ -13,17 +14,31 @@ ghost use Rattle.pathindex_core.specs.Engines.{by_meaning, kept_in};
 ghost use Rattle.pathindex_core.specs.EngineTerms.{engine_graph};
 ghost use Rattle.script_interpreter.specs.EngineStates.{IsOpen};
 ghost use Rattle.script_interpreter.specs.Indexes.{IsSaved};
-ghost use Rattle.script_interpreter.specs.Pieces.{Wrote, WrotePart, SavesParts};
+ghost use Rattle.script_interpreter.specs.Pieces.{Wrote, WrotePart, WroteNext, SavesParts};
 
 use crate::script::Stop;
 use index_api::{PathIndex, Via};
-use index_file::head;
+use index_file::GraphLines;
 use index_saving::{count_kept, view_lines};
 use label_graph::Graph;
 use pathindex_core::Engine;
 use px_base::{Memory, Sink, Steps, Text, put_all};
 use std::alloc::Global;
 use std::sync::ledger::{Blank, Ledger};
+
+/// Writes the bytes.
+fn write_bytes<K: Sink>(bytes: &[u8], sink: &mut K) -> Result<(), Stop>
+    ensures all { OnOk result (Appends (K.written sink.old) (K.written sink.new) bytes.now) }
+    ensures part { OnErr result (AppendsPrefix (K.written sink.old) (K.written sink.new) bytes.now) }
+    ensures sink { IsErrOf result Stop.Sink → MayHaveRisen (K.faults sink.old) (K.faults sink.new) }
+    ensures no_sink { result ≢ Err Stop.Sink → K.faults sink.new ≡ K.faults sink.old }
+    ensures no_shelf { result ≢ Err Stop.Shelf }
+{
+    match put_all(sink, bytes) {
+        Ok(()) => Ok(()),
+        Err(_) => Err(Stop::Sink),
+    }
+}
 
 /// Writes a text.
 fn write_text<K: Sink>(text: &Text, sink: &mut K) -> Result<(), Stop>
@@ -33,13 +48,58 @@ fn write_text<K: Sink>(text: &Text, sink: &mut K) -> Result<(), Stop>
     ensures no_sink { result ≢ Err Stop.Sink → K.faults sink.new ≡ K.faults sink.old }
     ensures no_shelf { result ≢ Err Stop.Shelf }
 {
-    match put_all(sink, text.as_bytes()) {
-        Ok(()) => Ok(()),
-        Err(_) => Err(Stop::Sink),
+    write_bytes(text.as_bytes(), sink)
+}
+
+/// Writes the next lines of the graph. False where no line is left behind them. `part` is memory to be used again.
+fn write_part<K: Sink>(
+    lines: &mut GraphLines,
+    part: &mut String,
+    graph: &Graph,
+    sink: &mut K,
+) -> Result<bool, Stop>
+    ensures next { OnOk result (WroteNext (K.written sink.old) (K.written sink.new) (lines_left graph.now.graph lines.old)
+        (lines_left graph.now.graph lines.new)) }
+    ensures fewer { result ≡ Ok true → length (lines_left graph.now.graph lines.new) < length (lines_left graph.now.graph lines.old) }
+    ensures over { result ≡ Ok false → lines_left graph.now.graph lines.new ≡ [] }
+    ensures part { OnErr result (AppendsPrefix (K.written sink.old) (K.written sink.new) (lines_left graph.now.graph lines.old)) }
+    ensures sink { IsErrOf result Stop.Sink → MayHaveRisen (K.faults sink.old) (K.faults sink.new) }
+    ensures no_sink { result ≢ Err Stop.Sink → K.faults sink.new ≡ K.faults sink.old }
+    ensures no_shelf { result ≢ Err Stop.Shelf }
+{
+    part.clear();
+    match lines.next(graph, part) {
+        Ok(more) => match write_bytes(part.as_bytes(), sink) {
+            Ok(()) => Ok(more),
+            Err(stop) => Err(stop),
+        },
+        Err(Memory) => Err(Stop::Memory),
     }
 }
 
-/// Writes the lines of the graph.
+/// Writes the lines of the graph that are left.
+fn write_lines<K: Sink>(
+    lines: &mut GraphLines,
+    part: &mut String,
+    graph: &Graph,
+    sink: &mut K,
+) -> Result<(), Stop>
+    ensures all { OnOk result (Appends (K.written sink.old) (K.written sink.new) (lines_left graph.now.graph lines.old)) }
+    ensures part { OnErr result (AppendsPrefix (K.written sink.old) (K.written sink.new) (lines_left graph.now.graph lines.old)) }
+    ensures sink { IsErrOf result Stop.Sink → MayHaveRisen (K.faults sink.old) (K.faults sink.new) }
+    ensures no_sink { result ≢ Err Stop.Sink → K.faults sink.new ≡ K.faults sink.old }
+    ensures no_shelf { result ≢ Err Stop.Shelf }
+{
+    'parts: loop {
+        match write_part(lines, part, graph, sink) {
+            Ok(true) => (),
+            Ok(false) => return Ok(()),
+            Err(stop) => return Err(stop),
+        }
+    }
+}
+
+/// Writes the lines of the graph, one part after another.
 fn write_head<K: Sink>(
     alloc: Global,
     graph: &Graph,
@@ -53,10 +113,9 @@ fn write_head<K: Sink>(
     ensures no_sink { result ≢ Err Stop.Sink → K.faults sink.new ≡ K.faults sink.old }
     ensures no_shelf { result ≢ Err Stop.Shelf }
 {
-    match head(alloc, graph, k, count) {
-        Ok(text) => write_text(&text, sink),
-        Err(Memory) => Err(Stop::Memory),
-    }
+    let mut lines = GraphLines::new(alloc, k, count);
+    let mut part = String::new(alloc);
+    write_lines(&mut lines, &mut part, graph, sink)
 }
 
 /// Writes the view of an index, if the index is kept.
@@ -148,8 +207,8 @@ fn write_file<B: PathIndex, K: Sink, L: Ledger>(
     }
 }
 
-/// Writes the file of the graph and of the indexes that are kept, part by part: the lines of the graph, and each view. The next part is
-/// made once the one before it is written.
+/// Writes the file of the graph and of the indexes that are kept, part by part: the lines of the graph, some 64 KiB at a time, and each
+/// view. The next part is made once the one before it is written.
 pub(crate) fn save<B: PathIndex, K: Sink, L: Ledger>(
     alloc: Global,
     engine: &mut Engine<B>,
