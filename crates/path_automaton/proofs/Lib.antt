@@ -4,3 +4,4 @@ pub mod RowMarks
 pub mod PairMarks
 pub mod SearchInvariant
 pub mod Inside
+pub mod Forks

@@ -62,7 +62,7 @@ spreads_as R Q m m2 k k2 to a = record {
   grows = a.grows;
   fresh = λ s v h. elim (a.fresh s v h) [ inl old ↦ inl old | inr p ↦ inr (to s v p.0, p.1) ];
   kept = a.kept;
-  source = λ s v h. elim (a.source s v h) [ inl old ↦ inl old | inr r ↦ inr (to s v r) ];
+  source = λ s v h. elim (a.source s v h) [ inl old ↦ inl old | inr r ↦ inr (to s v r.0, r.1) ];
   counted = a.counted;
   more = a.more;
 }
@@ -83,7 +83,10 @@ spreads_then R m m2 m3 k k2 k3 a b =
         | inr p ↦ inr p
       ];
       kept = λ s v h. b.kept s v (a.kept s v h);
-      source = λ s v h. elim (b.source s v h) [ inl mid ↦ a.source s v mid | inr r ↦ inr r ];
+      source = λ s v h. elim (b.source s v h) [
+        | inl mid ↦ elim (a.source s v mid) [ inl old ↦ inl old | inr r ↦ inr (r.0, b.grows s v r.1) ]
+        | inr r ↦ inr r
+      ];
       counted = omega arith;
       more = omega arith;
     }
@@ -130,7 +133,7 @@ module _ (P : ℕ → Type 0) (m : List (List Bool)) (k : List (ℕ × ℕ)) (s 
           | inl old ↦ inl old
           | inr new ↦
               let w = at_among s x v found new in
-              (elim (a.source v w.1) [ inl none ↦ absurd (true≢false (sym none)) | inr p ↦ inr (w.0, p) ])
+              (elim (a.source v w.1) [ inl none ↦ absurd (true≢false (sym none)) | inr p ↦ inr ((w.0, p.0), subst (λ y. IsMarked (set m s flags) y v) (sym w.0) (row_marked v p.1)) ])
         ];
         counted = omega (arith, length-append k (all_at s found), length_at s found);
         more = omega arith;

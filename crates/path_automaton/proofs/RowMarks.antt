@@ -63,7 +63,7 @@ gathers_as P Q m m2 w w2 to a = record {
   grows = a.grows;
   fresh = λ v h. elim (a.fresh v h) [ inl old ↦ inl old | inr p ↦ inr (to v p.0, p.1) ];
   kept = a.kept;
-  source = λ v h. elim (a.source v h) [ inl old ↦ inl old | inr r ↦ inr (to v r) ];
+  source = λ v h. elim (a.source v h) [ inl old ↦ inl old | inr r ↦ inr (to v r.0, r.1) ];
   counted = a.counted;
   more = a.more;
 }
@@ -82,7 +82,10 @@ gathers_then P m m2 m3 w w2 w3 a b =
         | inr p ↦ inr p
       ];
       kept = λ v h. b.kept v (a.kept v h);
-      source = λ v h. elim (b.source v h) [ inl mid ↦ a.source v mid | inr r ↦ inr r ];
+      source = λ v h. elim (b.source v h) [
+        | inl mid ↦ elim (a.source v mid) [ inl old ↦ inl old | inr r ↦ inr (r.0, b.grows v r.1) ]
+        | inr r ↦ inr r
+      ];
       counted = omega arith;
       more = omega arith;
     }
@@ -110,7 +113,10 @@ gathers_new m w v within new =
         | inr other ↦ inl (sym (get_or-set_other m v n true false other) ∙ h)
       ];
       kept = λ n h. has_more w v n h;
-      source = λ n h. has_cases w v n h;
+      source = λ n h. elim (has_cases w v n h) [
+        | inl old ↦ inl old
+        | inr here ↦ inr (here, subst (λ x. IsSet (set m v true) x) (sym here) (get_or-set_same m v true false within))
+      ];
       counted = omega (arith, count, length_push w v);
       more = omega (arith, count);
     }

@@ -1,6 +1,6 @@
 -- Graphs as contracts see them through `Digraph`. Where a test is named, the nodes that it keeps and the edges between
 -- these are seen alone.
-use Rattle.std.specs.Prelude.{ℕ, ◌<◌, Bool, List, length, Option, IsTrue}
+use Rattle.std.specs.Prelude.{ℕ, Bool, List, Option, IsTrue}
 use Rattle.graph_spec.specs.Members.{has}
 use Rattle.graph_spec.specs.Shapes.{Shape, shape_by}
 use Rattle.label_graph.specs.declared.digraph.Digraph.{Ghosts as Digraph}
@@ -8,7 +8,7 @@ use Rattle.label_graph.specs.LabelTable.{LabelTable}
 use Rattle.path_automaton.specs.declared.state.State.{State}
 use Rattle.path_automaton.specs.Programs.{state_at}
 use Rattle.path_automaton.specs.ProductSteps.{label_in, edge_in, AreEnds}
-use Rattle.path_automaton.specs.NewMarks.{Passes, Next, NextOf, IsPlace, SucceedsOne, MarksOne}
+use Rattle.path_automaton.specs.NewMarks.{Passes, Next, NextOf, IsPlace, SucceedsOne, EntersAt, IsEntered, MarksOne}
 
 -- the shape of a graph whose labels are numbers of the table
 abbrev pub shape_through : {A : Type 0} → Digraph A → LabelTable → A → Shape
@@ -50,10 +50,13 @@ abbrev pub SucceedsWithin : {A : Type 0} → Digraph A → A → (ℕ → Bool) 
 SucceedsWithin G g keeps states state places s c =
     SucceedsOne (G.span g) (label_in keeps (G.label_at g)) (edge_in keeps (G.edge g)) (state_at states state) places s c
 
--- what succeeds the state at one of the places is a state of the automaton at a place
-abbrev pub StaysInside : {A : Type 0} → Digraph A → A → (ℕ → Bool) → List State → ℕ → List ℕ → Type 0
-StaysInside G g keeps states state places =
-    (s c : ℕ) → SucceedsWithin G g keeps states state places s c → (s < length states) × IsPlaceWithin G g keeps c
+abbrev pub EntersWithin : {A : Type 0} → Digraph A → A → (ℕ → Bool) → List State → ℕ → List ℕ → ℕ → ℕ → Type 0
+EntersWithin G g keeps states k places s c =
+    EntersAt (state_at states) (G.span g) (label_in keeps (G.label_at g)) (edge_in keeps (G.edge g)) k places s c
+
+abbrev pub IsEnteredWithin : {A : Type 0} → Digraph A → A → (ℕ → Bool) → List State → ℕ → List ℕ → List (List Bool) → Type 0
+IsEnteredWithin G g keeps states k places marks =
+    IsEntered (state_at states) (G.span g) (label_in keeps (G.label_at g)) (edge_in keeps (G.edge g)) k places marks
 
 -- the same as `AreEndsFrom`, over the nodes that the test keeps and the edges between them
 abbrev pub AreEndsWithin : {A : Type 0} → Digraph A → A → (ℕ → Bool) → List State → ℕ → List ℕ → List ℕ → Type 0

@@ -7,7 +7,6 @@ use Rattle.path_automaton.specs.declared.state.State.{State}
 use Rattle.path_automaton.specs.declared.state.State.TheVariants.{End, Stuck, Any, Label, Fork}
 use Rattle.path_automaton.specs.MarkRows.{row, IsSet, IsMarked, row_members, members, pairs}
 use Rattle.path_automaton.specs.ListedPairs.{Among}
-use Rattle.path_automaton.specs.Programs.{IsEnd}
 use Rattle.path_automaton.specs.declared.frontier.Frontier.{Frontier}
 
 -- Further places of the kind were marked in a row, and found.
@@ -16,7 +15,7 @@ pub record Gathers (P : ℕ → Type 0) (before after : List Bool) (found finds 
   pub grows : (v : ℕ) → IsSet before v → IsSet after v
   pub fresh : (v : ℕ) → IsSet after v → IsSet before v ⊎ (P v × IsTrue (has finds v))
   pub kept : (v : ℕ) → IsTrue (has found v) → IsTrue (has finds v)
-  pub source : (v : ℕ) → IsTrue (has finds v) → IsTrue (has found v) ⊎ P v
+  pub source : (v : ℕ) → IsTrue (has finds v) → IsTrue (has found v) ⊎ (P v × IsSet after v)
   pub counted : length finds + row_members before ≡ length found + row_members after
   pub more : row_members before ≤ row_members after
 
@@ -28,7 +27,7 @@ pub record SpreadsOver (R : ℕ → ℕ → Type 0) (before after : List (List B
   pub grows : (s v : ℕ) → IsMarked before s v → IsMarked after s v
   pub fresh : (s v : ℕ) → IsMarked after s v → IsMarked before s v ⊎ (R s v × Among listed s v)
   pub kept : (s v : ℕ) → Among waited s v → Among listed s v
-  pub source : (s v : ℕ) → Among listed s v → Among waited s v ⊎ R s v
+  pub source : (s v : ℕ) → Among listed s v → Among waited s v ⊎ (R s v × IsMarked after s v)
   pub counted : length listed + members before ≡ length waited + members after
   pub more : members before ≤ members after
 
@@ -81,10 +80,21 @@ Enters (Some (Fork a b)) s = (s ≡ a) ⊎ (s ≡ b)
 abbrev pub EndsHere : (ℕ → Option State) → ℕ → Type 0
 EndsHere at s = (at s ≡ Some End) ⊎ ((k : ℕ) × Enters (at s) k × (at k ≡ Some End))
 
--- one of the two states at one of the places, except an end
-abbrev pub ForksTo : List State → ℕ → ℕ → List ℕ → ℕ → ℕ → Type 0
-ForksTo states a b places s v = ((s ≡ a) ⊎ (s ≡ b)) × IsTrue (has places v) × (IsEnd states s → ⊥)
+-- the state enters no other
+abbrev pub IsNoFork : Option State → Type 0
+IsNoFork o = (a b : ℕ) → o ≡ Some (Fork a b) → ⊥
 
--- what succeeds it, except an end that is entered
+-- the state at one of the places, or what succeeds it there
+abbrev pub EntersAt : (ℕ → Option State) → ℕ → (ℕ → Option ℕ) → (ℕ → ℕ → Bool) → ℕ → List ℕ → ℕ → ℕ → Type 0
+EntersAt at size label_at edge k places s c = ((s ≡ k) × IsTrue (has places c)) ⊎ SucceedsOne size label_at edge (at k) places s c
+
+-- the state is the end, or it is marked at the places, or what succeeds it there is
+abbrev pub IsEntered : (ℕ → Option State) → ℕ → (ℕ → Option ℕ) → (ℕ → ℕ → Bool) → ℕ → List ℕ → List (List Bool) → Type 0
+IsEntered at size label_at edge k places marks = (at k ≡ Some End)
+    ⊎ (((v : ℕ) → IsTrue (has places v) → IsMarked marks k v)
+    ⊎ ((at k ≡ Some End → ⊥) × ((s c : ℕ) → SucceedsOne size label_at edge (at k) places s c → IsMarked marks s c)))
+
+-- what succeeds it, or succeeds a state that it enters
 abbrev pub MarksOne : (ℕ → Option State) → ℕ → (ℕ → Option ℕ) → (ℕ → ℕ → Bool) → ℕ → List ℕ → ℕ → ℕ → Type 0
-MarksOne at size label_at edge state places s c = SucceedsOne size label_at edge (at state) places s c × (Enters (at state) s → at s ≡ Some End → ⊥)
+MarksOne at size label_at edge state places s c = SucceedsOne size label_at edge (at state) places s c
+    ⊎ ((k : ℕ) × Enters (at state) k × SucceedsOne size label_at edge (at k) places s c)

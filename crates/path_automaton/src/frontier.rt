@@ -6,16 +6,18 @@ ghost use Rattle.path_automaton.specs.NewMarks.{Gathers, SpreadsAt};
 
 use crate::row::Row;
 use crate::worklist::Worklist;
-use px_base::Memory;
+use px_base::{Bits, Memory};
 use std::alloc::Global;
 
 /// The marks of pairs of a state and a place, a row for each state, and the worklist of pairs to be visited. A place is a
-/// node, or the graph's size, which stands for the place before all nodes.
+/// node, or the graph's size, which stands for the place before all nodes. Beside them are the states that are marked where
+/// a fork enters them.
 #[derive(Drop)]
 pub(crate) struct Frontier {
     pub alloc: Global,
     pub rows: Vec<Row>,
     pub worklist: Worklist,
+    pub shared: Bits,
 }
 
 /// Marks the place, and finds it where it wasn't marked before.
@@ -71,7 +73,12 @@ fn mark_each(
 
 impl Frontier {
     /// No pair is marked, and none is listed. No row takes memory for its marks yet.
-    pub(crate) fn new(alloc: Global, states: usize, width: usize) -> Result<Frontier, Memory>
+    pub(crate) fn new(
+        alloc: Global,
+        shared: Bits,
+        states: usize,
+        width: usize,
+    ) -> Result<Frontier, Memory>
         ensures room { IfOk result (λ f. HasRows states width f.rows.items) }
         ensures unmarked { IfOk result (λ f. (s v : ℕ) → IsMarked f.rows.items s v → ⊥) }
         ensures none { IfOk result (λ f. f.worklist ≡ []) }
@@ -84,6 +91,7 @@ impl Frontier {
             alloc,
             rows,
             worklist: Worklist::new(alloc),
+            shared,
         })
     }
 

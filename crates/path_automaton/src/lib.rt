@@ -8,6 +8,7 @@ mod program;
 mod row;
 mod scope;
 mod searching;
+mod shared;
 mod state;
 mod worklist;
 

@@ -71,6 +71,14 @@ impl Program {
         self.states.len()
     }
 
+    /// The same. Each state leads to states of the automaton.
+    pub(crate) fn count(&self) -> usize
+        ensures count { result ≡ length self.now }
+        ensures inside { AreInside self.now }
+    {
+        self.states.len()
+    }
+
     /// The state with the number. O(1), no memory.
     pub fn state(&self, number: u32) -> State
         requires { number < length self.now }

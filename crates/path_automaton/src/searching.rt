@@ -1,16 +1,17 @@
 // The search of the product of an automaton and a graph.
-ghost use Rattle.std.specs.Prelude.{◌≡◌, ◌↔◌, ◌≤◌, ◌<◌, ◌+◌, ℕ, length, IsTrue, IfOk, OnOk};
+ghost use Rattle.std.specs.Prelude.{◌≡◌, ◌↔◌, ◌≤◌, ◌<◌, ◌+◌, ◌⊎◌, ℕ, false, length, IsTrue, IfOk, OnOk};
 ghost use Rattle.std.specs.List.Sorted.{IsStrictlyIncreasing};
 ghost use Rattle.graph_spec.specs.Members.{has};
 ghost use Rattle.path_automaton.specs.Programs.{state_at, IsEnd};
 ghost use Rattle.path_automaton.specs.MarkRows.{row, IsMarked, HasRows};
-ghost use Rattle.path_automaton.specs.NewMarks.{Spreads, SpreadsAt, AreMarked, AddsOnly, ForksTo, EndsHere};
-ghost use Rattle.path_automaton.specs.Digraphs.{ArePlaces, AreEndsFrom, NextOfWithin, ArePlacesWithin, MarksWithin, StaysInside, AreEndsWithin};
+ghost use Rattle.path_automaton.specs.NewMarks.{Spreads, SpreadsAt, AreMarked, AddsOnly, Enters, EndsHere, IsNoFork};
+ghost use Rattle.path_automaton.specs.Digraphs.{ArePlaces, AreEndsFrom, NextOfWithin, ArePlacesWithin, SucceedsWithin, EntersWithin, IsEnteredWithin, MarksWithin, AreEndsWithin};
 
 use crate::follow::follow;
 use crate::frontier::Frontier;
 use crate::program::Program;
 use crate::scope::{Everywhere, Inside, Scope};
+use crate::shared::shared_states;
 use crate::state::State;
 use label_graph::Digraph;
 use px_base::{Bits, Memory};
@@ -49,8 +50,10 @@ fn advance<G: Digraph, S: Scope>(
     Ok(())
 }
 
-/// Marks the state at each of the places. An end isn't marked: its places were noted when the fork was visited.
-fn enter(
+/// Marks what the state reads next to the places.
+fn read<G: Digraph, S: Scope>(
+    g: &G,
+    scope: &S,
     program: &Program,
     frontier: &mut Frontier,
     found: &mut Vec<u32>,
@@ -58,41 +61,80 @@ fn enter(
     places: &[u32],
 ) -> Result<(), Memory>
     requires state { state < length program.now }
-    requires there { state < length frontier.old.rows.items }
-    requires room { (v : ℕ) → IsTrue (has places.now v) → v < length (row frontier.old.rows.items state) }
-    ensures spreads { OnOk result (Spreads (λ s v. (s ≡ state) × IsTrue (has places.now v) × (IsEnd program.now s → ⊥)) frontier.old frontier.new) }
-    ensures marked { OnOk result ((v : ℕ) → IsTrue (has places.now v) → (IsEnd program.now state → ⊥) → IsMarked frontier.new.rows.items state v) }
+    requires places { ArePlacesWithin G.Digraph g.now (S.keeps scope.now) places.now }
+    requires room { HasRows (length program.now) (G.span g.now + 1) frontier.old.rows.items }
+    ensures spreads { OnOk result (Spreads (SucceedsWithin G.Digraph g.now (S.keeps scope.now) program.now state places.now) frontier.old frontier.new) }
+    ensures marked { OnOk result (IsNoFork (state_at program.now state)
+        → AreMarked (SucceedsWithin G.Digraph g.now (S.keeps scope.now) program.now state places.now) frontier.new) }
 {
-    if is_end(program, state) {
-        Ok(())
-    } else {
-        frontier.mark_all(found, state, places)
+    match program.state(state) {
+        State::End | State::Stuck | State::Fork(_, _) => Ok(()),
+        State::Any(next) => advance(g, scope, frontier, found, None, next, places),
+        State::Label(label, next) => advance(g, scope, frontier, found, Some(label), next, places),
     }
 }
 
-/// Marks both states at each of the places, but for an end.
-fn fork(
+/// Whether a state is marked where a fork enters it: another fork, or a state that is shared.
+fn is_listed(program: &Program, shared: &Bits, state: u32) -> bool
+    requires { state < length program.now }
+    ensures { result ≡ false → IsNoFork (state_at program.now state) }
+{
+    match program.state(state) {
+        State::Fork(_, _) => true,
+        State::End | State::Stuck | State::Any(_) | State::Label(_, _) => shared.contains(state),
+    }
+}
+
+/// Enters the state from a fork. An end isn't marked: its places were noted when the fork was visited. Nor is a state
+/// that only this fork leads to: it reads on at once, so its places aren't listed again.
+fn enter<G: Digraph, S: Scope>(
+    g: &G,
+    scope: &S,
     program: &Program,
     frontier: &mut Frontier,
     found: &mut Vec<u32>,
-    first: u32,
-    second: u32,
+    state: u32,
     places: &[u32],
 ) -> Result<(), Memory>
-    requires first_state { first < length program.now }
-    requires second_state { second < length program.now }
-    requires first { first < length frontier.old.rows.items }
-    requires second { second < length frontier.old.rows.items }
-    requires first_room { (v : ℕ) → IsTrue (has places.now v) → v < length (row frontier.old.rows.items first) }
-    requires second_room { (v : ℕ) → IsTrue (has places.now v) → v < length (row frontier.old.rows.items second) }
-    ensures spreads { OnOk result (Spreads (ForksTo program.now first second places.now) frontier.old frontier.new) }
-    ensures marked { OnOk result (AreMarked (ForksTo program.now first second places.now) frontier.new) }
+    requires state { state < length program.now }
+    requires places { ArePlacesWithin G.Digraph g.now (S.keeps scope.now) places.now }
+    requires room { HasRows (length program.now) (G.span g.now + 1) frontier.old.rows.items }
+    ensures spreads { OnOk result (Spreads (EntersWithin G.Digraph g.now (S.keeps scope.now) program.now state places.now) frontier.old frontier.new) }
+    ensures entered { OnOk result (IsEnteredWithin G.Digraph g.now (S.keeps scope.now) program.now state places.now frontier.new.rows.items) }
 {
-    enter(program, frontier, found, first, places)?;
-    enter(program, frontier, found, second, places)
+    if is_end(program, state) {
+        Ok(())
+    } else if is_listed(program, &frontier.shared, state) {
+        frontier.mark_all(found, state, places)
+    } else {
+        read(g, scope, program, frontier, found, state, places)
+    }
 }
 
-/// Marks all that succeeds the state at one of the places, but for an end that a fork enters.
+/// Enters both states from a fork.
+fn fork<G: Digraph, S: Scope>(
+    g: &G,
+    scope: &S,
+    program: &Program,
+    frontier: &mut Frontier,
+    found: &mut Vec<u32>,
+    states: (u32, u32),
+    places: &[u32],
+) -> Result<(), Memory>
+    requires first { states.0 < length program.now }
+    requires second { states.1 < length program.now }
+    requires places { ArePlacesWithin G.Digraph g.now (S.keeps scope.now) places.now }
+    requires room { HasRows (length program.now) (G.span g.now + 1) frontier.old.rows.items }
+    ensures spreads { OnOk result (Spreads (λ s c. EntersWithin G.Digraph g.now (S.keeps scope.now) program.now states.0 places.now s c
+        ⊎ EntersWithin G.Digraph g.now (S.keeps scope.now) program.now states.1 places.now s c) frontier.old frontier.new) }
+    ensures first { OnOk result (IsEnteredWithin G.Digraph g.now (S.keeps scope.now) program.now states.0 places.now frontier.new.rows.items) }
+    ensures second { OnOk result (IsEnteredWithin G.Digraph g.now (S.keeps scope.now) program.now states.1 places.now frontier.new.rows.items) }
+{
+    enter(g, scope, program, frontier, found, states.0, places)?;
+    enter(g, scope, program, frontier, found, states.1, places)
+}
+
+/// Marks what succeeds the state, or what succeeds a state that it enters.
 fn visit<G: Digraph, S: Scope>(
     g: &G,
     scope: &S,
@@ -106,14 +148,24 @@ fn visit<G: Digraph, S: Scope>(
     requires places { ArePlacesWithin G.Digraph g.now (S.keeps scope.now) places.now }
     requires room { HasRows (length program.now) (G.span g.now + 1) frontier.old.rows.items }
     ensures spreads { OnOk result (Spreads (MarksWithin G.Digraph g.now (S.keeps scope.now) program.now state places.now) frontier.old frontier.new) }
-    ensures marked { OnOk result (AreMarked (MarksWithin G.Digraph g.now (S.keeps scope.now) program.now state places.now) frontier.new) }
-    ensures inside { StaysInside G.Digraph g.now (S.keeps scope.now) program.now state places.now }
+    ensures marked { OnOk result (IsNoFork (state_at program.now state)
+        → AreMarked (SucceedsWithin G.Digraph g.now (S.keeps scope.now) program.now state places.now) frontier.new) }
+    ensures entered { OnOk result ((k : ℕ) → Enters (state_at program.now state) k
+        → IsEnteredWithin G.Digraph g.now (S.keeps scope.now) program.now k places.now frontier.new.rows.items) }
 {
     match program.state(state) {
-        State::End | State::Stuck => Ok(()),
-        State::Any(next) => advance(g, scope, frontier, found, None, next, places),
-        State::Label(label, next) => advance(g, scope, frontier, found, Some(label), next, places),
-        State::Fork(first, second) => fork(program, frontier, found, first, second, places),
+        State::Fork(first, second) => fork(
+            g,
+            scope,
+            program,
+            frontier,
+            found,
+            (first, second),
+            places,
+        ),
+        State::End | State::Stuck | State::Any(_) | State::Label(_, _) => {
+            read(g, scope, program, frontier, found, state, places)
+        }
     }
 }
 
@@ -198,7 +250,8 @@ fn search_in<G: Digraph, S: Scope>(
     ensures ends { IfOk result (λ b. AreEndsWithin G.Digraph g.now (S.keeps scope.now) program.now start places.now b.members) }
 {
     let size = g.size();
-    let mut frontier = Frontier::new(alloc, program.len(), size as usize + 1)?;
+    let shared = shared_states(alloc, program)?;
+    let mut frontier = Frontier::new(alloc, shared, program.count(), size as usize + 1)?;
     let mut answers = Bits::new(alloc, size)?;
     let mut found = Vec::new(alloc);
     let mut current = Vec::new(alloc);

@@ -1,13 +1,13 @@
-use Rattle.std.proofs.Common.{◌≡◌, ◌∙◌, ℕ, ◌+◌, ◌<◌, [], sym, ap, subst, inl, inr, rules, arith, length, List, Option, Some, IsTrue}
+use Rattle.std.proofs.Common.{◌≡◌, ◌∙◌, ℕ, ◌+◌, ◌<◌, [], sym, ap, subst, inl, inr, rules, arith, length, List, Option, Some, IsTrue, IsSome}
 use Rattle.std.specs.Prelude.{slice_get}
 use Rattle.std.proofs.lemmas.List.{length-append}
 use Rattle.path_automaton.specs.ProductSteps.{label_in, edge_in}
 use Rattle.graph_spec.specs.Members.{has}
 use Rattle.path_automaton.specs.MarkRows.{HasRows}
 use Rattle.path_automaton.specs.ListedPairs.{all_at, IsTaken}
-use Rattle.path_automaton.specs.NewMarks.{SpreadsOver, SucceedsOne, MarksOne}
+use Rattle.path_automaton.specs.NewMarks.{SpreadsOver, SucceedsOne, IsEntered, MarksOne}
 use Rattle.path_automaton.proofs.PairMarks.{members_le, room_on, falls, length_at, row_there}
-use Rattle.path_automaton.proofs.SearchInvariant.{searching_begins, searching_next, searching_ends, state_listed, place_listed, none_rises, IsSearching}
+use Rattle.path_automaton.proofs.SearchInvariant.{searching_begins, searching_next, searching_ends, state_listed, place_listed, ends_in, marks_inside, none_rises, IsSearching}
 use Rattle.std.specs.Prelude.{MatchOption}
 use Rattle.path_automaton.proofs.searching.search_in.Goals as goal
 
@@ -16,7 +16,7 @@ taken_of ks k places o s is h = subst (λ o. MatchOption o (ks ≡ []) (λ x. Is
 
 pub mark_all-requires-clause-there : goal.mark_all-requires-clause-there
 mark_all-requires-clause-there g c =
-    let l = c.in_ok-frontier.ensures.room c.args.start (subst (λ n. c.args.start < n) (sym c.len.ensures) c.requires.start) in
+    let l = c.in_ok-frontier.ensures.room c.args.start (subst (λ n. c.args.start < n) (sym c.count.ensures.count) c.requires.start) in
     row_there c.in_ok-frontier.frontier.rows.items c.args.start 0 (omega arith)
 
 pub runs-init : goal.runs-init
@@ -32,7 +32,7 @@ runs-init g c =
     let begun = c.in_ok-mark_all.ensures in
     let none = c.in_ok-answers.ensures in
     let room : HasRows states (span + 1) c.in_ok-frontier.frontier.rows.items =
-    subst (λ n. HasRows states (n + 1) c.in_ok-frontier.frontier.rows.items) size (subst (λ n. HasRows n (c.size-size.result + 1) c.in_ok-frontier.frontier.rows.items) c.len.ensures made.room) in
+    subst (λ n. HasRows states (n + 1) c.in_ok-frontier.frontier.rows.items) size (subst (λ n. HasRows n (c.size-size.result + 1) c.in_ok-frontier.frontier.rows.items) c.count.ensures.count made.room) in
     record {
       room = room_on states (span + 1) c.in_ok-frontier.frontier.rows.items c.mark_all.new.self.rows.items begun.spreads.wide room;
       size = ap (λ b. b.size) none ∙ size;
@@ -90,14 +90,17 @@ runs-preserved g c =
     let t = taken_of c.runs.frontier.worklist c.take.new.self places c.in_ok-state.field-0 c.in-Some.state c.in-Some.is c.in_ok-state.ensures in
     let noted = c.deref.ensures.value in
     let visited = c.deref-in-Some.ensures.value in
+    let ends : (u v : ℕ) → IsTrue (edge u v) → IsSome (label_at v) = ends_in (g.S.Scope.keeps c.args.scope.now) (g.G.Digraph.label_at c.args.g.now) (g.G.Digraph.edge c.args.g.now) (g.met.G.Digraph.ends c.args.g.now) in
     record {
       room = room_on states (span + 1) rows after.rows.items v.spreads.wide kept.room;
       size = n.size ∙ kept.size;
       searching = searching_next at span label_at edge First c.args.start states rows after.rows.items c.runs.frontier.worklist c.take.new.self after.worklist c.in-Some.state places
           c.runs.answers.members c.note_ends.new.answers.members kept.searching t.last
           (subst (λ x. SpreadsOver (MarksOne at span label_at edge c.in-Some.state x) rows after.rows.items c.take.new.self after.worklist) visited v.spreads)
-          (λ s e h. v.marked s e (subst (λ x. MarksOne at span label_at edge c.in-Some.state x s e) (sym visited) h))
-          (λ s e h. v.inside s e (subst (λ x. SucceedsOne span label_at edge (at c.in-Some.state) x s e) (sym visited) h))
+          (λ none s e h. v.marked none s e (subst (λ x. SucceedsOne span label_at edge (at c.in-Some.state) x s e) (sym visited) h))
+          (λ k e. subst (λ x. IsEntered at span label_at edge k x after.rows.items) visited (v.entered k e))
+          (marks_inside c.args.program.now span label_at edge ends c.count.ensures.inside c.in-Some.state places
+          (λ u p. (place_listed at span label_at edge First c.args.start states rows c.runs.frontier.worklist c.take.new.self c.in-Some.state places c.runs.answers.members kept.searching t.last u p).2))
           n.kept
           (λ e u p b. n.noted e u (subst (λ x. IsTrue (has x u)) (sym noted) p) (subst (λ x. u < x) (sym kept.size) b))
           (λ u h. elim (n.source u h) [ inl old ↦ inl old | inr e ↦ inr (e.0, subst (λ x. u < x) kept.size e.1, subst (λ x. IsTrue (has x u)) noted e.2) ])
