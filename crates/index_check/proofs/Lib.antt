@@ -11,6 +11,6 @@ pub mod MergeLaws
 pub mod MinimalLaws
 pub mod Renamed
 pub mod ViaLaws
-pub mod WaitingGroups
-pub mod WaitingLaws
-pub mod WaitingRounds
+pub mod ActiveGroups
+pub mod ActiveLaws
+pub mod ActiveRounds

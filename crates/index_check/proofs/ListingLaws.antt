@@ -1,4 +1,4 @@
--- Nodes on the lists of their blocks, and waiting nodes with their whole blocks.
+-- Nodes on the lists of their blocks, and active nodes with their whole blocks.
 use Rattle.std.proofs.Common.{◌≡◌, ◌≢◌, ℕ, zero, suc, ◌+◌, ◌<◌, ◌≤◌, ◌⊎◌, List, [], ◌∷◌, ◌++◌, length, Option, Some, None, IfSome, refl, sym, ◌∙◌, ap, subst, arith, inl, inr, true, false, true≢false, slice_get, get_or, take}
 use Rattle.std.specs.Prelude.{nat_eq}
 use Rattle.std.proofs.lemmas.Bool.{cases_lt, cases_Bool, or_cases, or_left, or_right}
@@ -9,7 +9,7 @@ use Rattle.hash_index.specs.Items.{Items, with_item, hash_at, count_to, IsNewest
 use Rattle.graph_spec.specs.Members.{at, has}
 use Rattle.graph_spec.specs.Shapes.{Shape}
 use Rattle.graph_spec.proofs.MemberLaws.{has_at, has_push, has_more}
-use Rattle.index_check.specs.Waiting.{number_in, IsOnTheWay, AreMoved, AreRenamed, renamed_at}
+use Rattle.index_check.specs.Active.{number_in, IsOnTheWay, AreMoved, AreRenamed, renamed_at}
 use Rattle.index_check.specs.Listing.{IsOn, IsListed, ListsNode, ListsMoved, AddsNode, IsWidened}
 use Rattle.index_check.proofs.NeighbourBlocks.{place_of}
 
@@ -94,27 +94,27 @@ same_or_not (Some a) (Some b) = elim (eqb_tells a b) [
 ]
 
 -- once those that went to another block are listed, each node is
-pub listed_still : (old new : List (Option ℕ)) (waiting groups names moved : List ℕ) (lists lists2 : Items ℕ) → IsListed old lists → AreMoved old waiting groups names (length waiting) moved
-    → AreRenamed old new waiting groups names (length waiting) → ListsMoved new moved lists lists2 → IsListed new lists2
-listed_still old new waiting groups names moved lists lists2 w m c l = λ n b e. elim (cases_Bool (has moved n)) [
+pub listed_still : (old new : List (Option ℕ)) (active groups names moved : List ℕ) (lists lists2 : Items ℕ) → IsListed old lists → AreMoved old active groups names (length active) moved
+    → AreRenamed old new active groups names (length active) → ListsMoved new moved lists lists2 → IsListed new lists2
+listed_still old new active groups names moved lists lists2 w m c l = λ n b e. elim (cases_Bool (has moved n)) [
   | inl on ↦ l.put n b on e
   | inr off ↦ l.kept b n (w n b (sym (stays n off) ∙ e))
 ]
   where
-    stays_at : (n i : ℕ) → i < length waiting → number_in waiting i ≡ n → has moved n ≡ false → at new n ≡ at old n
-    stays_at n i h here off = elim (same_or_not (renamed_at old waiting groups names i) (at old (number_in waiting i))) [
+    stays_at : (n i : ℕ) → i < length active → number_in active i ≡ n → has moved n ≡ false → at new n ≡ at old n
+    stays_at n i h here off = elim (same_or_not (renamed_at old active groups names i) (at old (number_in active i))) [
       | inl same ↦ ap (at new) (sym here) ∙ c.applied i h ∙ same ∙ ap (at old) here
       | inr apart ↦ absurd (true≢false (sym (ap (has moved) (sym here) ∙ m.every i h apart) ∙ off))
     ]
 
     stays : (n : ℕ) → has moved n ≡ false → at new n ≡ at old n
-    stays n off = elim (cases_Bool (has waiting n)) [
-      | inl here ↦ (let i = place_of waiting n here in stays_at n i.0 i.1 i.2 off)
-      | inr none ↦ c.others n (λ i h e. true≢false (sym (ap (has waiting) (sym e) ∙ stands i h) ∙ none))
+    stays n off = elim (cases_Bool (has active n)) [
+      | inl here ↦ (let i = place_of active n here in stays_at n i.0 i.1 i.2 off)
+      | inr none ↦ c.others n (λ i h e. true≢false (sym (ap (has active) (sym e) ∙ stands i h) ∙ none))
     ]
       where
-        stands : (i : ℕ) → i < length waiting → has waiting (number_in waiting i) ≡ true
-        stands i h = has_at waiting i 0 h
+        stands : (i : ℕ) → i < length active → has active (number_in active i) ≡ true
+        stands i h = has_at active i 0 h
 
 -- a node behind the others
 pub adds_node : (block : List (Option ℕ)) (b n : ℕ) (old : List ℕ) → at block n ≡ Some b → AddsNode block b n old (old ++ n ∷ [])
@@ -206,10 +206,10 @@ widened_same block old mid new w same = record {
   ];
 }
 
--- with nodes their whole blocks wait, so what is bisimilar to one does
-pub widened_way : (s : Shape) (block : List (Option ℕ)) (waiting wider : List ℕ) → IsOnTheWay s block waiting → IsWidened block waiting wider → IsStrictlyIncreasing wider
+-- with nodes their whole blocks are active, so what is bisimilar to one is
+pub widened_way : (s : Shape) (block : List (Option ℕ)) (active wider : List ℕ) → IsOnTheWay s block active → IsWidened block active wider → IsStrictlyIncreasing wider
     → IsOnTheWay s block wider
-widened_way s block waiting wider w v rising = record {
+widened_way s block active wider w v rising = record {
   coarse = w.coarse;
   closed = λ m n r h. elim (v.only m h) [
     | inl before ↦ v.kept n (w.closed m n r before)

@@ -5,5 +5,5 @@ pub mod NumberedShapes
 pub mod ComparedLists
 pub mod OuterParents
 pub mod BlockMerges
-pub mod Waiting
+pub mod Active
 pub mod Listing

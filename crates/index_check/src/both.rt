@@ -8,11 +8,11 @@ ghost use Rattle.bisim_spec.specs.Bisimilarity.{Both, FB};
 ghost use Rattle.bisim_spec.specs.Partitions.{IsPartition, Agrees};
 ghost use Rattle.index_check.specs.NumberedShapes.{digraph_shape};
 
+use crate::active::part_active;
 use crate::comparing::{are_same, determines};
 use crate::levels::label_list;
 use crate::refining::refine;
 use crate::stability::is_stable_both;
-use crate::waiting::part_waiting;
 use bisim_spec::Side;
 use label_graph::Digraph;
 use px_base::Memory;
@@ -103,9 +103,9 @@ fn fits_settled<G: Digraph>(alloc: Global, g: &G, block: &[Option<u32>]) -> Resu
 /// index (Kaushik et al., SIGMOD 2002). The list is as for `fits_level`. `Memory` comes only where memory runs out.
 ///
 /// Blocks that aren't stable both ways don't fit. Stable ones are no coarser, so they fit exactly where a partition that is no finer
-/// determines them: that of `part_waiting`, which is stable where its rounds came to their end. They do, but that isn't proved; where
+/// determines them: that of `part_active`, which is stable where its rounds came to their end. They do, but that isn't proved; where
 /// they hadn't, all levels would decide. Expected O(n + m log m + b) for n node numbers, m edges and block numbers below b, and what
-/// `part_waiting` costs.
+/// `part_active` costs.
 pub(crate) fn fits_both<G: Digraph>(
     alloc: Global,
     g: &G,
@@ -118,7 +118,7 @@ pub(crate) fn fits_both<G: Digraph>(
     if !stable {
         return Ok(false);
     }
-    let coarse = part_waiting(alloc, g)?;
+    let coarse = part_active(alloc, g)?;
     let found = determines(alloc, &coarse, block)?;
     if found {
         return Ok(true);

@@ -2,6 +2,7 @@
 //! partitions has no part in it.
 #![tactic(auto)]
 
+mod active;
 mod both;
 mod comparing;
 mod fitting;
@@ -15,6 +16,5 @@ mod outer;
 mod parts;
 mod refining;
 mod stability;
-mod waiting;
 
 pub use fitting::fits;

@@ -83,7 +83,7 @@ fn push_members(
     Ok(())
 }
 
-// Puts all nodes of the block behind the others, if fewer of them don't wait than do.
+// Puts all nodes of the block behind the others, if more of them are active than not.
 fn push_rest(
     all: &mut Vec<u32>,
     lists: &HashIndex<u32>,
@@ -100,21 +100,21 @@ fn push_rest(
     }
 }
 
-/// The waiting nodes, and with them all nodes of those blocks of which more wait than don't.
+/// The active nodes, and with them all nodes of those blocks of which more are active than not.
 pub(crate) fn with_rest(
     alloc: Global,
     lists: &HashIndex<u32>,
     block: &[Option<u32>],
     sizes: &mut Sizes,
-    waiting: &[u32],
+    active: &[u32],
 ) -> Result<Vec<u32>, Memory>
     requires { IsListed block.now lists.now }
-    ensures widened { IfOk result (λ all. IsWidened block.now waiting.now all.items) }
+    ensures widened { IfOk result (λ all. IsWidened block.now active.now all.items) }
     ensures rising { IfOk result (λ all. IsStrictlyIncreasing all.items) }
 {
-    sizes.count_waiting(block, waiting);
-    let mut all = waiting.to_vec(alloc)?;
-    for n in waiting {
+    sizes.count_active(block, active);
+    let mut all = active.to_vec(alloc)?;
+    for n in active {
         push_rest(&mut all, lists, block, sizes, block_of(block, *n))?;
     }
     sort_dedup(&mut all);

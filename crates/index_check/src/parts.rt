@@ -1,7 +1,7 @@
 // The numbers of blocks that are parted. What a part is called decides how much work is left, and never what is found: so nothing is
 // promised here.
 ghost use Rattle.std.specs.Prelude.{◌≡◌};
-ghost use Rattle.index_check.specs.Waiting.{number_in, is_shared};
+ghost use Rattle.index_check.specs.Active.{number_in, is_shared};
 
 use crate::keys::block_of;
 use px_base::Memory;
@@ -25,18 +25,18 @@ fn put_at(numbers: &mut [u32], i: u32, number: u32) {
     }
 }
 
-/// How many members each block has, by its number, how many of them wait, how many nodes are on its list, and the largest part of each
-/// block that was parted last. Numbers from `free` on are no blocks.
+/// How many members each block has, by its number, how many of them are active, how many nodes are on its list, and the largest part of
+/// each block that was parted last. Numbers from `free` on are no blocks.
 #[derive(Drop)]
 pub(crate) struct Sizes {
     pub(crate) members: Vec<u32>,
-    waiting: Vec<u32>,
+    active: Vec<u32>,
     listed: Vec<u32>,
     largest: Vec<u32>,
     free: u32,
 }
 
-// Waiting nodes of one block that stay together: the number of their block, and how many there are.
+// Active nodes of one block that stay together: the number of their block, and how many there are.
 #[derive(Copy, Clone)]
 struct Part {
     block: u32,
@@ -70,31 +70,31 @@ impl Sizes {
         let listed = members.to_vec(alloc)?;
         Ok(Sizes {
             members,
-            waiting: vec![in alloc; 0; free as usize]?,
+            active: vec![in alloc; 0; free as usize]?,
             listed,
             largest: vec![in alloc; 0; free as usize]?,
             free,
         })
     }
 
-    /// Counts the waiting nodes of each block, where no block has any yet.
-    pub(crate) fn count_waiting(&mut self, block: &[Option<u32>], waiting: &[u32]) {
-        for n in waiting {
+    /// Counts the active nodes of each block, where no block has any yet.
+    pub(crate) fn count_active(&mut self, block: &[Option<u32>], active: &[u32]) {
+        for n in active {
             if let Some(b) = block_of(block, *n) {
-                let more = number_at(&self.waiting, b).wrapping_add(1);
-                put_at(&mut self.waiting, b, more);
+                let more = number_at(&self.active, b).wrapping_add(1);
+                put_at(&mut self.active, b, more);
             }
         }
     }
 
-    /// Whether all members of the block should wait: some don't, more do, and most on its list are still in it. If most went away, the
-    /// members that wait go to new lists without those. The block is asked for once: it then has no waiting node any more.
+    /// Whether all members of the block should be active: some aren't, more are, and most on its list are still in it. If most went away,
+    /// the members that are active go to new lists without those. The block is asked for once: it then has no active node any more.
     pub(crate) fn takes_rest(&mut self, b: u32) -> bool {
-        let wait = number_at(&self.waiting, b);
+        let active = number_at(&self.active, b);
         let size = number_at(&self.members, b);
-        let rest = size.wrapping_sub(wait);
-        put_at(&mut self.waiting, b, 0);
-        0 < rest && rest < wait && number_at(&self.listed, b) / 8 <= size
+        let rest = size.wrapping_sub(active);
+        put_at(&mut self.active, b, 0);
+        0 < rest && rest < active && number_at(&self.listed, b) / 8 <= size
     }
 }
 
@@ -108,17 +108,17 @@ fn count_one(parts: &mut Vec<Part>, block: u32, k: u32) -> Result<(), Memory> {
     Ok(())
 }
 
-// The parts of the waiting nodes, by the numbers of their groups.
+// The parts of the active nodes, by the numbers of their groups.
 fn parts_of(
     alloc: Global,
     block: &[Option<u32>],
-    waiting: &[u32],
+    active: &[u32],
     groups: &[u32],
 ) -> Result<Vec<Part>, Memory> {
     let mut parts = Vec::new(alloc);
-    for i in 0..waiting.len() {
+    for i in 0..active.len() {
         if i < groups.len() {
-            if let Some(b) = block_of(block, waiting[i]) {
+            if let Some(b) = block_of(block, active[i]) {
                 count_one(&mut parts, b, groups[i])?;
             }
         }
@@ -143,7 +143,7 @@ fn note_largest(largest: &mut [u32], parts: &[Part], k: u32) {
     }
 }
 
-// Takes the waiting nodes off the members of their blocks, and notes the largest part of each.
+// Takes the active nodes off the members of their blocks, and notes the largest part of each.
 fn take_off(sizes: &mut Sizes, parts: &[Part]) {
     let mut k: u32 = 0;
     for part in parts {
@@ -154,7 +154,7 @@ fn take_off(sizes: &mut Sizes, parts: &[Part]) {
     }
 }
 
-// The number of a part: that of its block, if all members waited and no part is larger, else a new one.
+// The number of a part: that of its block, if all members were active and no part is larger, else a new one.
 fn name_part(sizes: &mut Sizes, part: Part, k: u32) -> Result<u32, Memory> {
     if number_at(&sizes.members, part.block) == 0 && number_at(&sizes.largest, part.block) == k {
         put_at(&mut sizes.members, part.block, part.size);
@@ -163,21 +163,21 @@ fn name_part(sizes: &mut Sizes, part: Part, k: u32) -> Result<u32, Memory> {
     let name = sizes.free;
     sizes.free = name.wrapping_add(1);
     sizes.members.push(part.size)?;
-    sizes.waiting.push(0)?;
+    sizes.active.push(0)?;
     sizes.listed.push(part.size)?;
     sizes.largest.push(0)?;
     Ok(name)
 }
 
-/// A number for each group of waiting nodes. The largest part of a block whose members all waited keeps the number of the block.
+/// A number for each group of active nodes. The largest part of a block whose members were all active keeps the number of the block.
 pub(crate) fn name_groups(
     alloc: Global,
     sizes: &mut Sizes,
     block: &[Option<u32>],
-    waiting: &[u32],
+    active: &[u32],
     groups: &[u32],
 ) -> Result<Vec<u32>, Memory> {
-    let parts = parts_of(alloc, block, waiting, groups)?;
+    let parts = parts_of(alloc, block, active, groups)?;
     take_off(sizes, &parts);
     let mut names = Vec::with_capacity(alloc, parts.len())?;
     let mut k: u32 = 0;

@@ -1,0 +1,12 @@
+use Rattle.std.proofs.Common.{◌≤◌, length}
+use Rattle.key_table.specs.NumberedKeys.{AreDistinct}
+use Rattle.index_check.proofs.ActiveGroups.{GroupedBelow}
+use Rattle.index_check.proofs.active.group_with.Given as goal
+
+abbrev pub invariant-loop-i : goal.invariant-loop-i
+invariant-loop-i g l = record {
+  grouped : GroupedBelow (g.G.Digraph.edge l.g) l.block l.active l.i l.keys.by_parents l.keys.by_both l.groups.items;
+  first : AreDistinct l.keys.by_parents;
+  second : AreDistinct l.keys.by_both;
+  within : l.i ≤ length l.active;
+}
