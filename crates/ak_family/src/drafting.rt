@@ -77,7 +77,8 @@ impl AkDraft {
         Ok(AkDraft { levels })
     }
 
-    /// Drops all that is drafted. O(t) for t entries at the largest size that the draft has had, no memory.
+    /// Drops all that is drafted. The memory of small tables is kept, that of large ones given back. O(k + d) for d entries that
+    /// are drafted, no memory.
     pub fn clear(&mut self)
         ensures count { length self.new ≡ length self.old }
         ensures empty { AreEmpty self.new }

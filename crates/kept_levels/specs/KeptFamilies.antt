@@ -14,7 +14,7 @@ use Rattle.quotient_draft.specs.Drafts.{settled_view}
 use Rattle.keyed_quotient.specs.KeyedQuotients.{KeyedQuotient, keyed_code}
 use Rattle.keyed_quotient.specs.Changes.{KeyedChanges, changes_code}
 use Rattle.ak_family.specs.Families.{HaveSupportedKeys}
-use Rattle.ak_family.specs.LevelDrafts.{changes_at, HaveReserved, ShowsFamily, ShowsKeys}
+use Rattle.ak_family.specs.LevelDrafts.{changes_at, AreOver, AreEmpty, HaveReserved, ShowsFamily, ShowsKeys}
 use Rattle.level_update.specs.FamilyDrafts.{most_steps}
 use Rattle.index_api.specs.IndexKinds.{is_kind}
 use Rattle.index_api.specs.Meanings.{Meaning}
@@ -42,10 +42,21 @@ abbrev pub IsKeptDraft : Sides → List KeyedQuotient → Option (List KeyedChan
 IsKeptDraft sides f None = Unit {0}
 IsKeptDraft sides f (Some d) = CanSettle sides f d
 
--- the keys of the family are as its supports say, and a draft that is staged can be settled
-pub record IsKeptFamily (sides : Sides) (f : List KeyedQuotient) (staged : Option (List KeyedChanges)) : Type 0 where
+-- nothing is drafted over the family
+pub record IsEmptyOver (f : List KeyedQuotient) (d : List KeyedChanges) : Type 0 where
+  pub over : AreOver f d
+  pub empty : AreEmpty d
+
+-- in a spare draft nothing is drafted
+abbrev pub IsSpare : List KeyedQuotient → Option (List KeyedChanges) → Type 0
+IsSpare f None = Unit {0}
+IsSpare f (Some d) = IsEmptyOver f d
+
+-- the keys of the family are as its supports say, a draft that is staged can be settled, and a spare one is empty
+pub record IsKeptFamily (sides : Sides) (f : List KeyedQuotient) (staged emptied : Option (List KeyedChanges)) : Type 0 where
   pub supported : HaveSupportedKeys sides f
   pub draft : IsKeptDraft sides f staged
+  pub spare : IsSpare f emptied
 
 -- the views of a family, one for each level
 abbrev pub views_of : List KeyedQuotient → List (Option View)

@@ -1,12 +1,12 @@
 // The family in force, with what a change to come will make of it.
-ghost use Rattle.std.specs.Prelude.{◌≡◌, ◌+◌, ◌≤◌, ℕ, IfOk, length};
+ghost use Rattle.std.specs.Prelude.{◌≡◌, ◌+◌, ◌≤◌, ℕ, Some, IfOk, length};
 ghost use Rattle.change_spec.specs.Steps.{after};
 ghost use Rattle.graph_steps.specs.NewChanges.{IsNew};
 ghost use Rattle.ak_family.specs.Families.{HaveSupportedKeys};
 ghost use Rattle.ak_family.specs.LevelDrafts.{AreSeenAs, ShowsFamily, ShowsKeys};
 ghost use Rattle.level_update.specs.FamilyDrafts.{FamilyFits, ShownFit, most_steps};
 ghost use Rattle.bisim_spec.specs.Fits.{kind_of};
-ghost use Rattle.kept_levels.specs.KeptFamilies.{CanSettle};
+ghost use Rattle.kept_levels.specs.KeptFamilies.{CanSettle, IsEmptyOver, IsSpare};
 
 use ak_family::{AkDraft, AkFamily};
 use bisim_spec::Sides;
@@ -33,11 +33,12 @@ pub trait CountedSides {
         ensures { result ≡ counted };
 }
 
-/// The levels 0 to k in force, by the sides of `S`, and a draft of what a change to come will make of them. A draft is made
-/// for each change, and dropped with it.
+/// The levels 0 to k in force, by the sides of `S`, and a draft of what a change to come will make of them. Once it is
+/// committed the draft is kept, emptied, so that the next change finds its tables made.
 pub struct KeptLevels<S: CountedSides> {
     family: AkFamily,
     staged: Option<AkDraft>,
+    spare: Option<AkDraft>,
     sides: PhantomData<S>,
 }
 
@@ -47,6 +48,7 @@ impl<S: CountedSides> Drop for KeptLevels<S> {
         let KeptLevels {
             family: _family,
             staged: _staged,
+            spare: _spare,
             sides: _sides,
         } = self;
     }
@@ -61,7 +63,7 @@ impl<S: CountedSides> Model for KeptLevels<S> {
 
     ghost view = { λ k. record { base = k.family; staged = k.staged } };
 
-    ghost invariant = { λ k. IsKeptFamily S.counted k.family k.staged };
+    ghost invariant = { λ k. IsKeptFamily S.counted k.family k.staged k.spare };
 }
 
 // The kind of the family by these sides.
@@ -74,10 +76,32 @@ fn kind_of(sides: Sides) -> Kind
     }
 }
 
+// A draft in which nothing is drafted: the spare one, or where there is none a new one.
+fn emptied(alloc: Global, family: &AkFamily, spare: Option<AkDraft>) -> Result<AkDraft, Memory>
+    requires spare { IsSpare family.now spare }
+    ensures { IfOk result (IsEmptyOver family.now) }
+{
+    match spare {
+        Some(draft) => Ok(draft),
+        None => {
+            let draft = AkDraft::new(alloc, family.k())?;
+            Ok(draft)
+        }
+    }
+}
+
+// Keeps an emptied draft.
+fn keep(spare: &mut Option<AkDraft>, draft: AkDraft)
+    ensures { spare.new ≡ Some draft }
+{
+    *spare = Some(draft);
+}
+
 // What a change will make of a family.
 fn drafted<L: Ledger>(
     alloc: Global,
     family: &AkFamily,
+    spare: Option<AkDraft>,
     sides: Sides,
     graph: &Graph,
     change: &Change,
@@ -86,12 +110,13 @@ fn drafted<L: Ledger>(
     requires fits { FamilyFits sides graph.now.graph family.now }
     requires supported { HaveSupportedKeys sides family.now }
     requires new { IsNew change.now graph.now.graph }
+    requires spare { IsSpare family.now spare }
     ensures shows { IfOk result (ShowsFamily family.now) }
     ensures keys { IfOk result (ShowsKeys sides family.now) }
     ensures fits { IfOk result (ShownFit sides (after change.now graph.now.graph) family.now) }
     ensures cost { (k : ℕ) → length family.now ≡ k + 1 → steps.new ≤ steps.old + most_steps sides graph.now.graph change.now k }
 {
-    let mut draft = AkDraft::new(alloc, family.k())?;
+    let mut draft = emptied(alloc, family, spare)?;
     draft_change(alloc, family, &mut draft, sides, graph, change, steps)?;
     Ok(draft)
 }
@@ -100,6 +125,7 @@ fn drafted<L: Ledger>(
 fn drafted_with_reserved<L: Ledger>(
     alloc: Global,
     family: &mut AkFamily,
+    spare: Option<AkDraft>,
     sides: Sides,
     graph: &Graph,
     change: &Change,
@@ -108,13 +134,14 @@ fn drafted_with_reserved<L: Ledger>(
     requires fits { FamilyFits sides graph.now.graph family.old }
     requires supported { HaveSupportedKeys sides family.old }
     requires new { IsNew change.now graph.now.graph }
+    requires spare { IsSpare family.old spare }
     ensures same { AreSeenAs family.old family.new }
     ensures supported { HaveSupportedKeys sides family.new }
     ensures ready { IfOk result (CanSettle sides family.new) }
     ensures fits { IfOk result (ShownFit sides (after change.now graph.now.graph) family.new) }
     ensures cost { (k : ℕ) → length family.old ≡ k + 1 → steps.new ≤ steps.old + most_steps sides graph.now.graph change.now k }
 {
-    let draft = drafted(alloc, family, sides, graph, change, steps)?;
+    let draft = drafted(alloc, family, spare, sides, graph, change, steps)?;
     family.reserve(&draft)?;
     Ok(draft)
 }
@@ -146,6 +173,7 @@ impl<S: CountedSides> KeptViews for KeptLevels<S> {
         Ok(KeptLevels {
             family,
             staged: None,
+            spare: None,
             sides: PhantomData,
         })
     }
@@ -158,7 +186,16 @@ impl<S: CountedSides> KeptViews for KeptLevels<S> {
         steps: &mut Steps<L>,
     ) -> Result<(), Memory> {
         let sides = S::sides();
-        let draft = drafted_with_reserved(alloc, &mut self.family, sides, graph, change, steps)?;
+        let spare = self.spare.take();
+        let draft = drafted_with_reserved(
+            alloc,
+            &mut self.family,
+            spare,
+            sides,
+            graph,
+            change,
+            steps,
+        )?;
         self.staged = Some(draft);
         Ok(())
     }
@@ -166,6 +203,7 @@ impl<S: CountedSides> KeptViews for KeptLevels<S> {
     fn commit(&mut self, _alloc: Global) {
         if let Some(mut draft) = self.staged.take() {
             self.family.settle(&mut draft);
+            keep(&mut self.spare, draft);
         }
     }
 

@@ -85,25 +85,6 @@ fn fill<L: Ledger>(
     Ok(())
 }
 
-// Empties a draft. Emptying a table takes time for the largest size that it had, so one large change would slow each later one
-// and hold its memory: a new draft takes its place, and `Draft::new` takes no memory.
-fn empty(alloc: Global, draft: &mut Draft)
-    ensures { draft.new ≡ no_changes }
-{
-    draft.clear();
-    renew(alloc, draft);
-}
-
-// Replaces an empty draft by a new one.
-fn renew(alloc: Global, draft: &mut Draft)
-    requires empty { draft.old ≡ no_changes }
-    ensures { draft.new ≡ no_changes }
-{
-    if let Ok(fresh) = Draft::new(alloc) {
-        *draft = fresh;
-    }
-}
-
 // Makes the parentless blocks again from the base where far more were noted since they were made than there were then,
 // so that numbers that are no longer blocks go. It passes over all blocks; where memory for it runs out, the parentless
 // blocks stay.
@@ -194,20 +175,19 @@ impl KeptViews for KeptSummary {
                 Ok(())
             }
             Err(error) => {
-                empty(alloc, &mut self.draft);
+                self.draft.clear();
                 Err(error)
             }
         }
     }
 
-    fn commit(&mut self, alloc: Global) {
+    fn commit(&mut self, _alloc: Global) {
         self.draft.settle(&mut self.base);
-        renew(alloc, &mut self.draft);
         self.staged = false;
     }
 
-    fn cancel(&mut self, alloc: Global) {
-        empty(alloc, &mut self.draft);
+    fn cancel(&mut self, _alloc: Global) {
+        self.draft.clear();
         self.staged = false;
     }
 

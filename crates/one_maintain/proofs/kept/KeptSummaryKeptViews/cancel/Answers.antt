@@ -3,7 +3,7 @@ use Rattle.one_maintain.proofs.kept.KeptSummaryKeptViews.cancel.Goals as goal
 
 pub invariant_of-self : goal.invariant_of-self
 invariant_of-self c = record {
-  kept = c.empty.ensures;
+  kept = c.clear.ensures.empty;
   parentless = c.self.invariant.parentless;
-  shown = covers_cleared c.self.inside.base c.empty.new.draft c.self.inside.parentless c.empty.ensures c.self.invariant.parentless;
+  shown = covers_cleared c.self.inside.base c.clear.new.self.draft c.self.inside.parentless c.clear.ensures.empty c.self.invariant.parentless;
 }
