@@ -1,11 +1,11 @@
 // What comes next to places, marked in a row.
-ghost use Rattle.std.specs.Prelude.{◌≡◌, ◌↔◌, ◌≤◌, ◌+◌, ℕ, true, length, IsSome, IsTrue, OnOk};
+ghost use Rattle.std.specs.Prelude.{◌≡◌, ◌↔◌, ◌<◌, ◌≤◌, ◌+◌, ℕ, true, length, IsSome, IsTrue, OnOk};
 ghost use Rattle.graph_spec.specs.Members.{has};
 ghost use Rattle.path_automaton.specs.MarkRows.{IsSet};
 ghost use Rattle.path_automaton.specs.NewMarks.{Gathers, Passes};
 ghost use Rattle.path_automaton.specs.Digraphs.{PassesWithin, PassesAmong, NextWithin, NextOfWithin, IsPlaceWithin, ArePlacesWithin};
 
-use crate::frontier::mark_if;
+use crate::frontier::{mark, mark_if};
 use crate::row::Row;
 use crate::scope::Scope;
 use label_graph::Digraph;
@@ -41,6 +41,28 @@ fn is_passing<G: Digraph, S: Scope>(g: &G, scope: &S, test: Option<u32>, n: Node
     g.is_node(n) && passes(g, scope, test, n)
 }
 
+/// The least node from this number on that is within and whose label passes, or a number that is at least the size. It
+/// writes nothing, so that what it reads of the graph stays in registers.
+#[inline(always)]
+fn next_passing<G: Digraph, S: Scope>(
+    g: &G,
+    scope: &S,
+    test: Option<u32>,
+    from: u32,
+    size: u32,
+) -> u32
+    requires { from ≤ size }
+    ensures from { from ≤ result }
+    ensures passes { result < size → PassesWithin G.Digraph g.now (S.keeps scope.now) test result }
+    ensures passed { (k : ℕ) → from ≤ k → k < result → PassesWithin G.Digraph g.now (S.keeps scope.now) test k → ⊥ }
+{
+    let mut place = scope.first_from(from, size);
+    'nodes: while place < size && !is_passing(g, scope, test, place) {
+        place = scope.first_from(place + 1, size);
+    }
+    place
+}
+
 /// Marks each node that is within and whose label passes.
 fn mark_nodes<G: Digraph, S: Scope>(
     alloc: Global,
@@ -55,10 +77,10 @@ fn mark_nodes<G: Digraph, S: Scope>(
     ensures marked { OnOk result ((c : ℕ) → PassesWithin G.Digraph g.now (S.keeps scope.now) test c → IsSet row.new c) }
 {
     let size = g.size();
-    let mut place = scope.first_from(0, size);
+    let mut place = next_passing(g, scope, test, 0, size);
     'nodes: while place < size {
-        mark_if(alloc, row, found, place, is_passing(g, scope, test, place))?;
-        place = scope.first_from(place + 1, size);
+        mark(alloc, row, found, place)?;
+        place = next_passing(g, scope, test, place + 1, size);
     }
     Ok(())
 }

@@ -1,5 +1,5 @@
 // The pairs that a search has marked, and those that it still has to visit.
-ghost use Rattle.std.specs.Prelude.{◌≡◌, ◌<◌, ◌≤◌, ℕ, [], length, IsTrue, IfOk, OnOk};
+ghost use Rattle.std.specs.Prelude.{◌≡◌, ◌<◌, ◌≤◌, ◌++◌, ◌∷◌, ℕ, [], length, IsTrue, IfOk, OnOk};
 ghost use Rattle.graph_spec.specs.Members.{has};
 ghost use Rattle.path_automaton.specs.MarkRows.{row, IsSet, IsMarked, HasRows};
 ghost use Rattle.path_automaton.specs.NewMarks.{Gathers, SpreadsAt};
@@ -20,15 +20,43 @@ pub(crate) struct Frontier {
     pub shared: Bits,
 }
 
+/// Puts a place behind the others where there is no room for it. It stays out of the loops that mark.
+#[cold]
+#[inline(never)]
+fn push_more(found: &mut Vec<u32>, place: u32) -> Result<(), Memory>
+    ensures items { OnOk result (found.new.items ≡ found.old.items ++ place ∷ []) }
+{
+    found.push(place)?;
+    Ok(())
+}
+
+/// Puts a place behind the others.
+#[inline(always)]
+fn push(found: &mut Vec<u32>, place: u32) -> Result<(), Memory>
+    ensures items { OnOk result (found.new.items ≡ found.old.items ++ place ∷ []) }
+{
+    if found.len() < found.capacity() {
+        found.push_reserved(place);
+        Ok(())
+    } else {
+        push_more(found, place)
+    }
+}
+
 /// Marks the place, and finds it where it wasn't marked before.
 #[inline(always)]
-fn mark(alloc: Global, row: &mut Row, found: &mut Vec<u32>, place: u32) -> Result<(), Memory>
+pub(crate) fn mark(
+    alloc: Global,
+    row: &mut Row,
+    found: &mut Vec<u32>,
+    place: u32,
+) -> Result<(), Memory>
     requires { place < length row.old }
     ensures gathers { OnOk result (Gathers (λ v. v ≡ place) row.old row.new found.old.items found.new.items) }
     ensures marked { OnOk result (IsSet row.new place) }
 {
     if row.insert(alloc, place)? {
-        found.push(place)?;
+        push(found, place)?;
     }
     Ok(())
 }

@@ -1,5 +1,5 @@
 // Marked places.
-ghost use Rattle.std.specs.Prelude.{◌≡◌, ◌<◌, ◌≤◌, ◌*◌, ◌/◌, ◌||◌, ℕ, false, true, not, nat_eq, length, IfOk, OnOk, OnErr, slice_set, slice_index_or};
+ghost use Rattle.std.specs.Prelude.{◌≡◌, ◌+◌, ◌<◌, ◌≤◌, ◌*◌, ◌/◌, ◌||◌, ℕ, false, true, not, nat_eq, length, IfOk, OnOk, OnErr, slice_set, slice_index_or};
 ghost use Rattle.std.proofs.Math.ListN.{replicate};
 ghost use Rattle.path_automaton.specs.MarkRows.{bit_of, AreReady};
 
@@ -26,7 +26,17 @@ impl Model for Row {
     ghost invariant = { λ r. AreReady r.width r.words.items };
 }
 
+/// Words for so many bits, none of which is set. It stays out of the loops that mark.
+#[cold]
+#[inline(never)]
+fn new_words(alloc: Global, width: usize) -> Result<Vec<u64>, Memory>
+    ensures { IfOk result (λ words. words.items ≡ replicate (width / 64 + 1) 0) }
+{
+    Ok(vec![in alloc; 0; width / 64 + 1]?)
+}
+
 /// Makes the words of a row, where there are none.
+#[inline(always)]
 fn make_words(alloc: Global, words: &mut Vec<u64>, width: usize) -> Result<(), Memory>
     requires { AreReady width words.old.items }
     ensures ready { OnOk result (width ≤ 64 * length words.new.items) }
@@ -34,7 +44,7 @@ fn make_words(alloc: Global, words: &mut Vec<u64>, width: usize) -> Result<(), M
     ensures err { OnErr result (words.new.items ≡ words.old.items) }
 {
     if words.is_empty() {
-        *words = vec![in alloc; 0; width / 64 + 1]?;
+        *words = new_words(alloc, width)?;
     }
     Ok(())
 }
