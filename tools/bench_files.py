@@ -8,8 +8,9 @@ PROGRAM is run in place of bin/pathindex. Times are processor times, the best of
 computes the same indexes. A check is a whole process; what it takes to read the file alone is that of a check of the same file without
 views.
 
-Then it has files checked that are made to be slow: at twice the size a check should take twice as long. In the view of `hub`, a chain that
-leads to one more node, all blocks have one label and one child. In that of `ring` each round of refinement parts two nodes from thousands.
+Then it has files checked that are made to be slow: at twice the size a check should take twice as long. In `hub` each node of a chain of one
+label leads to one more node. In `ring` each round of refinement parts two nodes from thousands, and in `hubs` each has two more nodes to
+look at that have thousands of children.
 """
 import os
 import pathlib
@@ -102,9 +103,16 @@ def write_ring(file, count):
     write_file(file, labels, edges, "fb")
 
 
+def write_hubs(file, count):
+    """A chain, and two more nodes that lead to all of it, one of them to all but the middle."""
+    edges = [(n, n + 1) for n in range(count - 1)] + [(count, n) for n in range(count)]
+    edges += [(count + 1, n) for n in range(count) if n != count // 2]
+    write_file(file, ["a"] * count + ["h", "h"], edges, "fb")
+
+
 def measure_slow(program, folder):
     file = os.path.join(folder, "slow")
-    for kind, write in (("hub", write_hub), ("ring", write_ring)):
+    for kind, write in (("hub", write_hub), ("ring", write_ring), ("hubs", write_hubs)):
         for count in SLOW:
             write(file, count)
             taken = best_of({"check": [program, "--check", file]}, 2)["check"]

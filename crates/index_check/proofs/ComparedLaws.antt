@@ -1,9 +1,8 @@
 -- Lists that are compared by the first number with each value.
-use Rattle.std.proofs.Common.{◌≡◌, ◌≢◌, ℕ, suc, ◌+◌, ◌<◌, List, Option, Some, None, refl, sym, ◌∙◌, ap, subst, arith, inl, inr, length, set, get_or-set_same, get_or-set_other}
+use Rattle.std.proofs.Common.{◌≡◌, ◌≢◌, ℕ, ◌+◌, ◌<◌, List, Option, Some, None, sym, ◌∙◌, ap, arith, inl, inr, length, set, get_or-set_same, get_or-set_other}
 use Rattle.std.proofs.lemmas.Bool.{cases_lt}
 use Rattle.graph_spec.specs.Members.{at}
-use Rattle.bisim_spec.proofs.Bisimilar.{some_of, none_or_some, is_some_at}
-use Rattle.index_check.specs.ComparedLists.{Determines, AreSame, AreCompared}
+use Rattle.index_check.specs.ComparedLists.{Determines, AreCompared}
 
 pub compared_start : (keys values first : List (Option ℕ)) → ((b f : ℕ) → at first b ≡ Some f → ⊥) → AreCompared keys values 0 first
 compared_start keys values first none = record {

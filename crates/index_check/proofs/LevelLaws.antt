@@ -1,11 +1,11 @@
 -- Lists that are refined are levels of bisimilarity.
 use Rattle.bisim_spec.proofs.BelowLaws.{count_few}
-use Rattle.std.proofs.Common.{◌≡◌, ℕ, zero, suc, ◌<◌, ◌≤◌, IsTrue, is_some, List, [], ◌∷◌, Option, Some, None, IsSome, Bool, refl, sym, ◌∙◌, ap, subst, arith, true≢false}
+use Rattle.std.proofs.Common.{◌≡◌, ℕ, suc, ◌<◌, ◌≤◌, IsTrue, is_some, List, [], ◌∷◌, Option, Some, None, IsSome, Bool, refl, sym, ◌∙◌, ap, subst, true≢false}
 use Rattle.std.specs.Prelude.{option_map}
-use Rattle.graph_spec.specs.Shapes.{Shape, IsNode, IsParent, IsChild, IsShape}
+use Rattle.graph_spec.specs.Shapes.{Shape, IsShape}
 use Rattle.graph_spec.specs.Members.{at}
 use Rattle.bisim_spec.specs.Bisimilarity.{SameLabel, Bis, Both, FB, node_count}
-use Rattle.bisim_spec.specs.Partitions.{Together, IsPartition, Agrees}
+use Rattle.bisim_spec.specs.Partitions.{IsPartition, Agrees}
 use Rattle.bisim_spec.proofs.Bisimilar.{some_of, is_some_at, both_node, both_sym}
 use Rattle.bisim_spec.proofs.Keys.{bis_from_key, key_from_bis, both_from_key, key_from_both}
 use Rattle.bisim_spec.proofs.Settled.{falls_to, both_family, fb_each, fb_settled}

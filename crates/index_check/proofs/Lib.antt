@@ -7,7 +7,7 @@ pub mod ComparedLaws
 pub mod ListingLaws
 pub mod LevelLaws
 pub mod Stable
-pub mod MergeLaws
+pub mod ClosedKeys
 pub mod MinimalLaws
 pub mod Renamed
 pub mod ViaLaws

@@ -20,8 +20,8 @@ use Rattle.index_check.specs.NumberedShapes.{shape_by_number}
 use Rattle.index_check.specs.Refinement.{Refines}
 use Rattle.index_check.specs.ComparedLists.{Determines}
 use Rattle.index_check.specs.OuterParents.{is_outer_parent, AreInnerLabels, MatchesOuter, TellsByOuter}
-use Rattle.index_check.specs.BlockMerges.{is_closed_parent}
-use Rattle.index_check.proofs.MergeLaws.{closed_parent, closed_self, closed_cases}
+use Rattle.index_check.specs.ClosedParents.{is_closed_parent}
+use Rattle.index_check.proofs.ClosedKeys.{closed_parent, closed_self, closed_cases}
 
 this_is : (a : ℕ) (o : Option ℕ) → is_this a o ≡ true → o ≡ Some a
 this_is a None h = absurd (true≢false (sym h))

@@ -133,6 +133,22 @@ tells_from own block next edge keys blocks distinct w by lacks = record {
       });
 }
 
+-- a key by all parents of one node isn't that of another without its own block
+key_apart : (own : ℕ → Option ℕ) (block : List (Option ℕ)) (edge : ℕ → ℕ → Bool) (n m : ℕ) (key : List ℕ) → ((p n : ℕ) → IsTrue (edge p n) → (b : ℕ) × (at block p ≡ Some b))
+    → TellsByOuter own block edge → IsKey own block (is_neighbour Parents edge) n key → IsKey own block (is_outer_parent block edge) m key → ⊥
+key_apart own block edge n m key blocks tells whole outer =
+    let parts = parts_same whole.around outer.around whole.number outer.number (sym whole.is ∙ outer.is) in
+    tells.apart n m (whole.number, whole.own_is, outer.own_is ∙ ap Some (sym parts.1)) (record {
+      there = λ p e.
+          let b = blocks p n e in
+          let q = outer.each b.0 (ap (λ xs. has xs b.0) (sym parts.0) ∙ whole.every p b.0 e b.1) in
+          (q.0, q.1, (b.0, b.1, q.2));
+      back = λ q e.
+          let b = outer_neighbour_block block edge blocks q m e in
+          let p = whole.each b.0 (ap (λ xs. has xs b.0) parts.0 ∙ outer.every q b.0 e b.1) in
+          (p.0, p.1, (b.0, b.1, p.2));
+    })
+
 pub tells_apart : (own : ℕ → Option ℕ) (block next : List (Option ℕ)) (edge : ℕ → ℕ → Bool) (keys : List (List ℕ)) → ((p n : ℕ) → IsTrue (edge p n) → (b : ℕ) × (at block p ≡ Some b))
     → AreDistinct keys → AreNumbered own block (is_outer_parent block edge) next (slice_get keys) → TellsByOuter own block edge
     → Determines next block × ((n : ℕ) → HasWholeKey own block edge keys n → ⊥)
@@ -143,16 +159,5 @@ tells_apart own block next edge keys blocks distinct w tells = (
       let m = w.inhabited h.number (is_some_at (slice_get keys h.number) h.key h.stands) in
       let key = key_of_block own block (is_outer_parent block edge) (slice_get keys) next w m.0 h.number m.1 in
       let one : key.numbers ≡ h.key = (let x = key.at in let y = h.stands in cc) in
-      let outer : IsKey own block (is_outer_parent block edge) m.0 h.key = subst (IsKey own block (is_outer_parent block edge) m.0) one key.is in
-      let parts = parts_same h.is.around outer.around h.is.number outer.number (sym h.is.is ∙ outer.is) in
-      tells.apart n m.0 (h.is.number, h.is.own_is, outer.own_is ∙ ap Some (sym parts.1)) (record {
-        there = λ p e.
-            let b = blocks p n e in
-            let q = outer.each b.0 (ap (λ xs. has xs b.0) (sym parts.0) ∙ h.is.every p b.0 e b.1) in
-            (q.0, q.1, (b.0, b.1, q.2));
-        back = λ q e.
-            let b = outer_neighbour_block block edge blocks q m.0 e in
-            let p = h.is.each b.0 (ap (λ xs. has xs b.0) parts.0 ∙ outer.every q b.0 e b.1) in
-            (p.0, p.1, (b.0, b.1, p.2));
-      }),
+      key_apart own block edge n m.0 h.key blocks tells h.is (subst (IsKey own block (is_outer_parent block edge) m.0) one key.is),
 )

@@ -1,14 +1,13 @@
 -- What bisimilarity and stability say doesn't depend on how labels are named.
-use Rattle.std.proofs.Common.{◌≡◌, ℕ, zero, suc, List, Option, Some, None, IsSome, is_some, Bool, true, false, refl, sym, ◌∙◌, ap, true≢false}
-use Rattle.std.proofs.lemmas.Bool.{both_ways}
+use Rattle.std.proofs.Common.{◌≡◌, ℕ, zero, suc, List, Option, IsSome, is_some, Bool, sym, ◌∙◌}
 use Rattle.std.specs.Cmp as cmp
-use Rattle.graph_spec.specs.Shapes.{Shape, IsNode, IsParent, IsChild}
+use Rattle.graph_spec.specs.Shapes.{Shape, IsParent, IsChild}
 use Rattle.graph_spec.specs.Members.{at}
-use Rattle.bisim_spec.specs.Bisimilarity.{SameLabel, Matched, Covers, Bis, Both, FB, node_count}
-use Rattle.bisim_spec.specs.Partitions.{Together, IsPartition, Agrees}
-use Rattle.bisim_spec.specs.Stability.{Stable, Minimal, Mergeable, merged}
+use Rattle.bisim_spec.specs.Bisimilarity.{SameLabel, Matched, Bis, Both, FB, node_count}
+use Rattle.bisim_spec.specs.Partitions.{IsPartition, Agrees}
+use Rattle.bisim_spec.specs.Stability.{Stable, Minimal, merged}
 use Rattle.bisim_spec.proofs.BelowLaws.{count_same}
-use Rattle.bisim_spec.proofs.Bisimilar.{some_of, is_some_at, label_node, label_self, label_same, label_sym}
+use Rattle.bisim_spec.proofs.Bisimilar.{some_of, is_some_at, label_node, label_self, label_same}
 
 abbrev pub with_labels : ℕ → (ℕ → ℕ → Bool) → (ℕ → Option (List ℕ)) → Shape
 with_labels size edge label = record { size = size; label = label; edge = edge }

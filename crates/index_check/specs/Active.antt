@@ -26,6 +26,10 @@ pub record IsOnTheWay (s : Shape) (block : List (Option ℕ)) (active : List ℕ
   pub closed : (u v : ℕ) → FB s u v → has active u ≡ true → has active v ≡ true
   pub rising : IsStrictlyIncreasing active
 
+-- with a node of these all that are bisimilar to it are among them
+abbrev pub IsClosed : Shape → List ℕ → Type 0
+IsClosed s nodes = (u v : ℕ) → FB s u v → has nodes u ≡ true → has nodes v ≡ true
+
 -- the two are in one block, and so are their neighbours on both sides
 pub record AreAlike (edge : ℕ → ℕ → Bool) (block : List (Option ℕ)) (u v : ℕ) : Type 0 where
   pub parents : StayTogether (at block) block (is_neighbour Parents edge) u v

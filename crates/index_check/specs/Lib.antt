@@ -4,6 +4,6 @@ pub mod NeighbourSides
 pub mod NumberedShapes
 pub mod ComparedLists
 pub mod OuterParents
-pub mod BlockMerges
+pub mod ClosedParents
 pub mod Active
 pub mod Listing

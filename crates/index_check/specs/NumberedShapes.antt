@@ -1,5 +1,5 @@
 -- Graphs whose labels are numbers, as shapes.
-use Rattle.std.specs.Prelude.{ℕ, Bool, List, [], ◌∷◌, Option, option_map}
+use Rattle.std.specs.Prelude.{ℕ, Bool, [], ◌∷◌, Option, option_map}
 use Rattle.graph_spec.specs.Shapes.{Shape}
 use Rattle.label_graph.specs.declared.digraph.Digraph.{Ghosts as Digraph}
 

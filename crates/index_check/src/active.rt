@@ -4,7 +4,9 @@ ghost use Rattle.std.specs.List.Sorted.{IsStrictlyIncreasing};
 ghost use Rattle.graph_spec.specs.Members.{at, has};
 ghost use Rattle.key_table.specs.NumberedKeys.{AreDistinct};
 ghost use Rattle.index_check.specs.NumberedShapes.{digraph_shape};
+ghost use Rattle.graph_spec.specs.Shapes.{Shape};
 ghost use Rattle.index_check.specs.Active.{
+  IsClosed,
   IsCoarse,
   IsOnTheWay,
   TakesGroup,
@@ -30,6 +32,9 @@ use key_table::{KeyTable, sort_dedup};
 use label_graph::Digraph;
 use px_base::Memory;
 use std::alloc::Global;
+
+// A node with more parents or children than this is a hub.
+const MANY: usize = 64;
 
 // The keys of one round: by the blocks of parents, and by those numbers and the blocks of children.
 #[derive(Drop)]
@@ -267,6 +272,95 @@ fn all_numbers(alloc: Global, size: u32) -> Result<Vec<u32>, Memory>
     Ok(numbers)
 }
 
+// Whether the node has many neighbours.
+fn is_hub<G: Digraph>(g: &G, n: u32) -> bool {
+    g.is_node(n) && (g.parents(n).len() > MANY || g.children(n).len() > MANY)
+}
+
+// Marks the blocks of those of the nodes that have many neighbours, and answers whether there are any.
+fn mark_hubs<G: Digraph>(g: &G, block: &[Option<u32>], sizes: &mut Sizes, nodes: &[u32]) -> bool {
+    let mut any = false;
+    for n in nodes {
+        if is_hub(g, *n) {
+            sizes.mark(block_of(block, *n), true);
+            any = true;
+        }
+    }
+    any
+}
+
+// Takes the marks off again.
+fn unmark(block: &[Option<u32>], sizes: &mut Sizes, nodes: &[u32]) {
+    for n in nodes {
+        sizes.mark(block_of(block, *n), false);
+    }
+}
+
+// The active nodes without those in blocks with hubs, which are put behind the later ones.
+fn put_off_hubs<G: Digraph>(
+    alloc: Global,
+    g: &G,
+    block: &[Option<u32>],
+    sizes: &mut Sizes,
+    next: Vec<u32>,
+    later: &mut Vec<u32>,
+) -> Result<Vec<u32>, Memory>
+    requires way { IsOnTheWay (digraph_shape G.Digraph g.now) block.now next.items }
+    requires later { IsClosed (digraph_shape G.Digraph g.now) later.old.items }
+    ensures way { IfOk result (λ light. IsOnTheWay (digraph_shape G.Digraph g.now) block.now light.items) }
+    ensures later { OnOk result (IsClosed (digraph_shape G.Digraph g.now) later.new.items) }
+{
+    let any = mark_hubs(g, block, sizes, &next);
+    if !any {
+        return Ok(next);
+    }
+    let mut light = Vec::new(alloc);
+    push_shared(&mut light, block, &sizes.light, &next)?;
+    push_shared(later, block, &sizes.heavy, &next)?;
+    unmark(block, sizes, &next);
+    sort_dedup(&mut light);
+    Ok(light)
+}
+
+// The nodes of the next round: the later ones, if no others are active.
+fn take_turn(alloc: Global, light: Vec<u32>, later: &mut Vec<u32>) -> Result<Vec<u32>, Memory>
+    requires { IsStrictlyIncreasing light.items }
+    ensures rising { IfOk result (λ l. IsStrictlyIncreasing l.items) }
+    ensures closed { IfOk result (λ l. (s : Shape) → IsClosed s light.items → IsClosed s later.old.items → IsClosed s l.items) }
+    ensures later { OnOk result ((s : Shape) → IsClosed s later.old.items → IsClosed s later.new.items) }
+{
+    if !light.is_empty() {
+        return Ok(light);
+    }
+    let mut turn = later.to_vec(alloc)?;
+    later.clear();
+    sort_dedup(&mut turn);
+    Ok(turn)
+}
+
+// One round, and which nodes are active in the next one.
+fn part_in_turn<G: Digraph>(
+    alloc: Global,
+    g: &G,
+    block: &mut [Option<u32>],
+    sizes: &mut Sizes,
+    lists: &mut HashIndex<u32>,
+    active: &[u32],
+    later: &mut Vec<u32>,
+) -> Result<Vec<u32>, Memory>
+    requires way { IsOnTheWay (digraph_shape G.Digraph g.now) block.old active.now }
+    requires listed { IsListed block.old lists.old }
+    requires later { IsClosed (digraph_shape G.Digraph g.now) later.old.items }
+    ensures way { IfOk result (λ next. IsOnTheWay (digraph_shape G.Digraph g.now) block.new next.items) }
+    ensures listed { IfOk result (λ next. IsListed block.new lists.new) }
+    ensures later { OnOk result (IsClosed (digraph_shape G.Digraph g.now) later.new.items) }
+{
+    let next = part_wider(alloc, g, block, sizes, lists, active)?;
+    let light = put_off_hubs(alloc, g, block, sizes, next, later)?;
+    let turn = take_turn(alloc, light, later)?;
+    Ok(turn)
+}
+
 // Rounds until no node is active.
 fn part_all<G: Digraph>(
     alloc: Global,
@@ -281,24 +375,26 @@ fn part_all<G: Digraph>(
     ensures { OnOk result (IsCoarse (digraph_shape G.Digraph g.now) block.new) }
 {
     let mut active = first;
-    for round in 0..g.size() {
+    let mut later = Vec::new(alloc);
+    for round in 0..2 * g.size() as u64 + 2 {
         if active.is_empty() {
             return Ok(());
         }
-        let next = part_wider(alloc, g, block, sizes, lists, &active)?;
+        let next = part_in_turn(alloc, g, block, sizes, lists, &active, &mut later)?;
         active = next;
     }
     Ok(())
 }
 
 /// A partition that is no finer than full bisimilarity by parents and children. It is that, where no node is left that is active after as
-/// many rounds as there are nodes.
+/// many rounds as twice the nodes and two more.
 ///
 /// At first all nodes are active; then, of the nodes next to those that went to another block, those that aren't alone in theirs, and with
 /// them their whole block if more of it are active than not. The largest part of a block whose members are all active keeps its number, so
 /// nodes go to another block O(n log n) times together (J. Hopcroft, 1971). Expected O(n + m log m) for n node numbers and m neighbours of
-/// nodes that are active, each as often as it is: a node is active in each round after one in which a neighbour went to another block. It
-/// takes 60 bytes a number, 20 for each time that a node goes to another block, and the tables of the first round.
+/// nodes that are active, each as often as it is. A node is active again after a round in which a neighbour went to another block; so that
+/// hubs aren't active in each round, blocks of which a hub is active are put off until no others are active. It takes 60 bytes a number, 20
+/// for each time that a node goes to another block, and the tables of the first round.
 pub(crate) fn part_active<G: Digraph>(alloc: Global, g: &G) -> Result<Vec<Option<u32>>, Memory>
     ensures { IfOk result (λ l. IsCoarse (digraph_shape G.Digraph g.now) l.items) }
 {

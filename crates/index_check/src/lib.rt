@@ -4,12 +4,12 @@
 
 mod active;
 mod both;
+mod closed;
 mod comparing;
 mod fitting;
 mod keys;
 mod levels;
 mod listing;
-mod merging;
 mod minimal;
 mod neighbour_lists;
 mod outer;

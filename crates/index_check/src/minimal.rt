@@ -3,9 +3,9 @@ ghost use Rattle.std.specs.Prelude.{◌≡◌, ◌↔◌, ℕ, IfOk, IsTrue};
 ghost use Rattle.bisim_spec.specs.Stability.{Stable, Minimal};
 ghost use Rattle.index_check.specs.NumberedShapes.{digraph_shape};
 
+use crate::closed::refine_by_closed;
 use crate::comparing::{are_both, determines};
 use crate::levels::label_list;
-use crate::merging::refine_by_closed;
 use crate::outer::{inner_labels, tells_by_outer};
 use crate::refining::refine;
 use bisim_spec::Side;

@@ -26,10 +26,13 @@ fn put_at(numbers: &mut [u32], i: u32, number: u32) {
 }
 
 /// How many members each block has, by its number, how many of them are active, how many nodes are on its list, and the largest part of
-/// each block that was parted last. Numbers from `free` on are no blocks.
+/// each block that was parted last. A block that is marked has 2 in `heavy` and 0 in `light`, any other the reverse. Numbers from `free` on
+/// are no blocks.
 #[derive(Drop)]
 pub(crate) struct Sizes {
     pub(crate) members: Vec<u32>,
+    pub(crate) light: Vec<u32>,
+    pub(crate) heavy: Vec<u32>,
     active: Vec<u32>,
     listed: Vec<u32>,
     largest: Vec<u32>,
@@ -70,11 +73,21 @@ impl Sizes {
         let listed = members.to_vec(alloc)?;
         Ok(Sizes {
             members,
+            light: vec![in alloc; 2; free as usize]?,
+            heavy: vec![in alloc; 0; free as usize]?,
             active: vec![in alloc; 0; free as usize]?,
             listed,
             largest: vec![in alloc; 0; free as usize]?,
             free,
         })
+    }
+
+    /// Marks a block, or takes its mark off.
+    pub(crate) fn mark(&mut self, block: Option<u32>, on: bool) {
+        if let Some(b) = block {
+            put_at(&mut self.light, b, if on { 0 } else { 2 });
+            put_at(&mut self.heavy, b, if on { 2 } else { 0 });
+        }
     }
 
     /// Counts the active nodes of each block, where no block has any yet.
@@ -163,6 +176,8 @@ fn name_part(sizes: &mut Sizes, part: Part, k: u32) -> Result<u32, Memory> {
     let name = sizes.free;
     sizes.free = name.wrapping_add(1);
     sizes.members.push(part.size)?;
+    sizes.light.push(2)?;
+    sizes.heavy.push(0)?;
     sizes.active.push(0)?;
     sizes.listed.push(part.size)?;
     sizes.largest.push(0)?;

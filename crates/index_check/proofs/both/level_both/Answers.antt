@@ -1,4 +1,4 @@
-use Rattle.std.proofs.Common.{◌≡◌, ◌+◌, suc, arith}
+use Rattle.std.proofs.Common.{arith}
 use Rattle.index_check.proofs.LevelLaws.{labels_agree, both_more, both_same, agree_as}
 use Rattle.index_check.proofs.both.level_both.Goals as goal
 

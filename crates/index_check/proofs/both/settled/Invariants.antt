@@ -1,4 +1,3 @@
-use Rattle.std.proofs.Common.{◌≤◌}
 use Rattle.bisim_spec.specs.Bisimilarity.{Both}
 use Rattle.bisim_spec.specs.Partitions.{Agrees}
 use Rattle.index_check.specs.NumberedShapes.{digraph_shape}

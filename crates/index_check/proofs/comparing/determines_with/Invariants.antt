@@ -1,4 +1,4 @@
-use Rattle.std.proofs.Common.{◌≡◌, length}
+use Rattle.std.proofs.Common.{length}
 use Rattle.index_check.specs.ComparedLists.{AreBelow, AreCompared}
 use Rattle.index_check.proofs.comparing.determines_with.Given as goal
 

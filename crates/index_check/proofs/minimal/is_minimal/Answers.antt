@@ -2,7 +2,7 @@ use Rattle.std.proofs.Common.{refl, sym, ◌∙◌, subst, IsSome}
 use Rattle.std.proofs.lemmas.Bool.{and_parts, and_from}
 use Rattle.graph_spec.specs.Members.{at}
 use Rattle.bisim_spec.proofs.Bisimilar.{some_of, is_some_at}
-use Rattle.index_check.specs.BlockMerges.{is_closed_parent}
+use Rattle.index_check.specs.ClosedParents.{is_closed_parent}
 use Rattle.index_check.specs.OuterParents.{TellsByOuter, AreInnerLabels}
 use Rattle.index_check.proofs.LevelLaws.{determines_as, refines_own, of_node, is_shape_by_number}
 use Rattle.index_check.proofs.MinimalLaws.{minimal_where, keys_where, closed_where, outer_where}

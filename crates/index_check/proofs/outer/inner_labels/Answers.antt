@@ -1,5 +1,4 @@
 use Rattle.std.proofs.Common.{arith}
-use Rattle.graph_spec.specs.Members.{at}
 use Rattle.bisim_spec.proofs.Together.{block_below}
 use Rattle.index_check.proofs.OuterKeys.{looped_more, looped_all}
 use Rattle.index_check.proofs.outer.inner_labels.Goals as goal

@@ -1,9 +1,9 @@
-// Whether a block can be merged with that of a parent.
+// Keys with the own block.
 ghost use Rattle.std.specs.Prelude.{◌≡◌, ◌||◌, [], ℕ, IsSome, IfOk, OnOk, nat_eq};
 ghost use Rattle.graph_spec.specs.Members.{at, has};
 ghost use Rattle.key_table.specs.NumberedKeys.{AreDistinct};
 ghost use Rattle.index_check.specs.Refinement.{Refines, Numbers};
-ghost use Rattle.index_check.specs.BlockMerges.{is_closed_parent};
+ghost use Rattle.index_check.specs.ClosedParents.{is_closed_parent};
 
 use crate::keys::{block_of, find_key};
 use key_table::KeyTable;

@@ -1,8 +1,8 @@
 use Rattle.key_table.specs.NumberedKeys.{AreDistinct}
 use Rattle.graph_spec.specs.Members.{at}
-use Rattle.index_check.specs.BlockMerges.{is_closed_parent}
+use Rattle.index_check.specs.ClosedParents.{is_closed_parent}
 use Rattle.index_check.proofs.NumberedNodes.{NumberedBelow}
-use Rattle.index_check.proofs.merging.refine_with.Given as goal
+use Rattle.index_check.proofs.closed.refine_with.Given as goal
 
 abbrev pub invariant-loop-n : goal.invariant-loop-n
 invariant-loop-n g l = record {

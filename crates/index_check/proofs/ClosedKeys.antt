@@ -1,4 +1,4 @@
--- Blocks that can be merged with those of parents.
+-- Keys with the own block.
 use Rattle.std.proofs.Common.{◌≡◌, ℕ, ◌⊎◌, List, Option, Some, IsSome, is_some, IsTrue, Bool, true, ◌&&◌, ◌||◌, refl, sym, ◌∙◌, ap, inl, inr}
 use Rattle.std.specs.Prelude.{nat_eq}
 use Rattle.std.proofs.lemmas.Bool.{or_cases, or_left, or_right, and_parts, and_from}
@@ -6,7 +6,7 @@ use Rattle.std.proofs.lemmas.Bool.Decides.{Decides-eqb}
 use Rattle.graph_spec.specs.Members.{at, has, Lists}
 use Rattle.bisim_spec.proofs.Bisimilar.{is_some_at, some_of}
 use Rattle.index_check.specs.Keys.{IsKey, IsWritten}
-use Rattle.index_check.specs.BlockMerges.{is_closed_parent}
+use Rattle.index_check.specs.ClosedParents.{is_closed_parent}
 
 pub closed_parent : (block : List (Option ℕ)) (edge : ℕ → ℕ → Bool) (p n : ℕ) → IsTrue (edge p n) → IsTrue (is_closed_parent block edge p n)
 closed_parent block edge p n e = or_left (edge p n) (nat_eq p n && is_some (at block p)) e
