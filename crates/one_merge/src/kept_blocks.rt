@@ -8,10 +8,11 @@ use std::marker::Model;
 const FEW: usize = 32;
 
 /// For a parent and a label the child with that label into which another was merged last, and for a label alone the block
-/// without other parents. Nothing is promised of a block that is found: the caller tests it.
+/// without other parents. Nothing is promised of a block that is found: the caller tests it. The first takes no memory.
 #[derive(Drop)]
 pub(crate) struct KeptBlocks {
-    blocks: IndexMap<(Option<u32>, u32), u32>,
+    last: Option<((Option<u32>, u32), u32)>,
+    others: IndexMap<(Option<u32>, u32), u32>,
     asked: Option<(Option<u32>, u32)>,
 }
 
@@ -24,10 +25,11 @@ impl Model for KeptBlocks {
 }
 
 impl KeptBlocks {
-    /// None. They take no memory until one is noted.
+    /// None.
     pub(crate) fn new(alloc: Global) -> KeptBlocks {
         KeptBlocks {
-            blocks: IndexMap::new(alloc),
+            last: None,
+            others: IndexMap::new(alloc),
             asked: None,
         }
     }
@@ -36,10 +38,20 @@ impl KeptBlocks {
     pub(crate) fn ask(&mut self, parent: Option<u32>, label: u32) -> Option<u32> {
         let key = (parent, label);
         self.asked = Some(key);
-        if self.blocks.is_empty() {
+        if let Some((noted, b)) = self.last {
+            if noted == key {
+                return Some(b);
+            }
+        }
+        self.find_other(key)
+    }
+
+    // The same, for what was noted before the last.
+    fn find_other(&self, key: (Option<u32>, u32)) -> Option<u32> {
+        if self.others.is_empty() {
             return None;
         }
-        match self.blocks.get(&key) {
+        match self.others.get(&key) {
             Some(b) => Some(*b),
             None => None,
         }
@@ -55,7 +67,18 @@ impl KeptBlocks {
     /// Notes the block that is kept, for what was asked last.
     pub(crate) fn note(&mut self, b: u32) -> Result<(), Memory> {
         if let Some(key) = self.asked {
-            self.blocks.insert(key, b)?;
+            self.keep_last(key)?;
+            self.last = Some((key, b));
+        }
+        Ok(())
+    }
+
+    // Keeps what was noted last, where it was for another parent or label than the next.
+    fn keep_last(&mut self, next: (Option<u32>, u32)) -> Result<(), Memory> {
+        if let Some((noted, b)) = self.last {
+            if noted != next {
+                self.others.insert(noted, b)?;
+            }
         }
         Ok(())
     }
