@@ -6,3 +6,5 @@ pub mod PendingChanges
 pub mod Unreached
 pub mod IndexEffects
 pub mod SingleSteps
+pub mod SameParents
+pub mod UnsteadyLaws

@@ -29,7 +29,8 @@ use Rattle.quotient_draft.specs.Drafts.{Drafted, no_changes, shown_support}
 use Rattle.quotient_draft.specs.Basis.{IsOver}
 use Rattle.one_spec.proofs.Sums.{few_lists, first_has}
 use Rattle.one_update.specs.OneDrafts.{IsBefore, AreFoundTargets, AreTargets, ShowsChange, IsDrafted, AreSupportsAlone, rounds_cost}
-use Rattle.one_update.proofs.PhaseLaws.{all_found, read_light}
+use Rattle.one_update.specs.UnsteadyNodes.{AreUnsteady}
+use Rattle.one_update.proofs.PhaseLaws.{all_found, found_unsteady, read_light}
 use Rattle.one_update.proofs.EdgeChanges.{AreAt, changed_link, changed_unlink, other_linked, none_linked, other_unlinked, unlink_some, still_link, still_unlink}
 
 -- ---- edges
@@ -92,11 +93,19 @@ unlink_targets a q u v before is =
       members = λ n. one_listed v (is_live (without_edge a.before u v)) true refl k.onto n ∙ ap (λ b. is_live (without_edge a.before u v) n && (b || false)) (and_true (nat_eq n v));
     })
 
-pub link_found : (a : Pending) (q : Quotient) (u v : ℕ) → IsBefore a q → a.change ≡ link u v ∷ [] → AreFoundTargets a.before a.change (v ∷ [])
+link_found : (a : Pending) (q : Quotient) (u v : ℕ) → IsBefore a q → a.change ≡ link u v ∷ [] → AreFoundTargets a.before a.change (v ∷ [])
 link_found a q u v before is = all_found a.before a.change (v ∷ []) (link_targets a q u v before is)
 
-pub unlink_found : (a : Pending) (q : Quotient) (u v : ℕ) → IsBefore a q → a.change ≡ unlink u v ∷ [] → AreFoundTargets a.before a.change (v ∷ [])
+unlink_found : (a : Pending) (q : Quotient) (u v : ℕ) → IsBefore a q → a.change ≡ unlink u v ∷ [] → AreFoundTargets a.before a.change (v ∷ [])
 unlink_found a q u v before is = all_found a.before a.change (v ∷ []) (unlink_targets a q u v before is)
+
+pub link_unsteady : (a : Pending) (q : Quotient) (u v : ℕ) → IsBefore a q → a.change ≡ link u v ∷ [] → AreUnsteady a.before a.change q.blocks.block_of (v ∷ [])
+link_unsteady a q u v before is =
+    found_unsteady a.before a.change q.blocks.block_of (v ∷ []) before.graph before.fits.index.stable.partition (link_found a q u v before is)
+
+pub unlink_unsteady : (a : Pending) (q : Quotient) (u v : ℕ) → IsBefore a q → a.change ≡ unlink u v ∷ [] → AreUnsteady a.before a.change q.blocks.block_of (v ∷ [])
+unlink_unsteady a q u v before is =
+    found_unsteady a.before a.change q.blocks.block_of (v ∷ []) before.graph before.fits.index.stable.partition (unlink_found a q u v before is)
 
 -- reading the parents of the end of an edge that goes
 pub unlink_light : (a : Pending) (q : Quotient) (u v : ℕ) → IsBefore a q → a.change ≡ unlink u v ∷ []

@@ -30,13 +30,13 @@ use Rattle.one_spec.proofs.MergedPairs.{merges_stable, merges_keep, outside_merg
 use Rattle.one_spec.proofs.OneSteps.{reach_closed}
 use Rattle.one_spec.proofs.MergeCandidates.{unmarked_candidates}
 use Rattle.one_update.specs.OneDrafts.{AreTargets, KeepsUnreached, reached, rounds_cost}
-use Rattle.one_update.proofs.PhaseLaws.{HasMerge, HasSplit, all_found, once_within, targets_reached}
+use Rattle.one_update.proofs.PhaseLaws.{HasMerge, HasSplit, once_within, targets_reached}
 
 -- what the split clause says of the nodes that are reached
 pub split_reached : (g : Graph) (c : List Step) (list : List ℕ) (p p2 : List (Option ℕ)) (made : List ℕ) → IsGraph (after c g) → AreTargets g c list → HasSplit g c list p p2 made
     → IsSplitInside (shape_of (after c g)) (reached g c) p p2 [] made
 split_reached g c list p p2 made graph2 are split =
-    split.split (reached g c) (reach_closed (shape_of (after c g)) (targets c g) (is_shape (after c g) graph2)) (targets_reached g c list (all_found g c list are))
+    split.split (reached g c) (reach_closed (shape_of (after c g)) (targets c g) (is_shape (after c g) graph2)) (targets_reached g c list (λ n h. sym (are.members n) ∙ h))
 
 -- nodes out of reach are together as in the base
 unreached_same : (g : Graph) (c : List Step) (p p2 : List (Option ℕ)) → KeepsUnreached g c p p2 → SameOutside p p2 (IsOut (shape_of (after c g)) (targets c g))

@@ -1,2 +1,3 @@
 pub mod OneDrafts
 pub mod EffectDrafts
+pub mod UnsteadyNodes

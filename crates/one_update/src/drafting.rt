@@ -16,7 +16,8 @@ ghost use Rattle.one_update.specs.OneDrafts.{IsBefore, IsDrafted, IsSupported, m
 
 use crate::effects::draft_effects;
 use crate::linking::{draft_link, draft_unlink};
-use crate::resettling::{each_once, resettle};
+use crate::resettling::resettle;
+use crate::unsteady::unsteady;
 use graph_effects::Effects;
 use graph_steps::{Change, Step};
 use graph_update::After;
@@ -50,7 +51,7 @@ fn draft_settled<L: Ledger>(
     ensures cost { steps.new ≤ steps.old + 4 * rounds_cost after.now.before after.now.change }
 {
     draft_effects(base, draft, after, effects)?;
-    let found = each_once(alloc, effects.targets())?;
+    let found = unsteady(alloc, base, after, effects)?;
     resettle(alloc, base, draft, parentless, after, &found, steps)?;
     Ok(())
 }

@@ -15,6 +15,7 @@ mod phases;
 mod resettling;
 #[cfg(test)]
 mod tests;
+mod unsteady;
 
 pub use drafting::draft_change;
 pub use phases::{merge, split};

@@ -1,16 +1,15 @@
 // From a partition that is unstable at the targets of a change to the next one.
-ghost use Rattle.std.specs.Prelude.{◌≡◌, ◌+◌, ◌*◌, ◌≤◌, ℕ, Some, IsTrue, OnOk, IfOk, nat_eq};
-ghost use Rattle.std.specs.List.{IsDistinct};
+ghost use Rattle.std.specs.Prelude.{◌≡◌, ◌+◌, ◌*◌, ◌≤◌, ℕ, Some, IsTrue, OnOk};
 ghost use Rattle.graph_spec.specs.Members.{at, has};
 ghost use Rattle.change_spec.specs.NextOne.{KeepsParents};
 ghost use Rattle.graph_update.specs.PendingChanges.{graph_after};
 ghost use Rattle.quotient_draft.specs.Drafts.{shown_blocks};
 ghost use Rattle.quotient_draft.specs.Basis.{IsOver};
 ghost use Rattle.one_merge.specs.ParentlessBlocks.{CoversBase, CoversShown};
-ghost use Rattle.one_update.specs.OneDrafts.{IsBefore, AreFoundTargets, ShowsChange, IsDrafted, ListsBlocksOf, rounds_cost};
+ghost use Rattle.one_update.specs.OneDrafts.{IsBefore, ShowsChange, IsDrafted, ListsBlocksOf, rounds_cost};
+ghost use Rattle.one_update.specs.UnsteadyNodes.{AreUnsteady};
 
 use graph_update::After;
-use key_table::sort_dedup;
 use one_merge::{ParentlessBlocks, merge};
 use one_split::split;
 use px_base::{Memory, NodeId, Steps};
@@ -48,19 +47,8 @@ pub(crate) fn add_blocks(
     Ok(())
 }
 
-/// The nodes, each once.
-pub(crate) fn each_once(alloc: Global, nodes: &[NodeId]) -> Result<Vec<NodeId>, Memory>
-    ensures once { IfOk result (λ list. IsDistinct nat_eq list.items) }
-    ensures same { IfOk result (λ list. (n : ℕ) → has list.items n ≡ has nodes.now n) }
-{
-    let mut list = Vec::new(alloc);
-    list.extend_from_slice(nodes)?;
-    sort_dedup(&mut list);
-    Ok(list)
-}
-
-/// Splits blocks until the partition is stable, from the targets of the change on, and then merges blocks until no
-/// two can be merged.
+/// Splits blocks until the partition is stable, from these targets of the change on, and then merges blocks until no
+/// two can be merged. The other targets keep their labels and their parent blocks.
 pub(crate) fn resettle<L: Ledger>(
     alloc: Global,
     base: &Summary,
@@ -73,7 +61,7 @@ pub(crate) fn resettle<L: Ledger>(
     requires before { IsBefore after.now base.now }
     requires covers { CoversBase base.now parentless.old }
     requires changed { ShowsChange after.now.before after.now.change base.now draft.old }
-    requires targets { AreFoundTargets after.now.before after.now.change targets.now }
+    requires targets { AreUnsteady after.now.before after.now.change base.now.blocks.block_of targets.now }
     requires moves { KeepsParents after.now.change (graph_after after.now) base.now.blocks.block_of → ⊥ }
     ensures covers { CoversBase base.now parentless.new }
     ensures shown { OnOk result (CoversShown base.now draft.new parentless.new) }

@@ -1,4 +1,4 @@
-use Rattle.one_update.proofs.PendingChanges.{link_found, link_still}
+use Rattle.one_update.proofs.PendingChanges.{link_unsteady, link_still}
 use Rattle.one_update.proofs.drafting.add_edge.Goals as goal
 
 pub returns-then-branch-clause-drafted : goal.returns-then-branch-clause-drafted
@@ -7,4 +7,4 @@ returns-then-branch-clause-drafted g c =
     (c.in_ok-draft_link.ensures.yes c.if-branch.true) c.in_ok-draft_link.ensures.changed
 
 pub resettle-requires-clause-targets : goal.resettle-requires-clause-targets
-resettle-requires-clause-targets g c = link_found c.args.after.now c.args.base.now c.args.u c.args.v c.requires.before c.requires.links
+resettle-requires-clause-targets g c = link_unsteady c.args.after.now c.args.base.now c.args.u c.args.v c.requires.before c.requires.links

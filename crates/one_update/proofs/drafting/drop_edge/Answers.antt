@@ -1,5 +1,5 @@
 use Rattle.std.proofs.Common.{arith}
-use Rattle.one_update.proofs.PendingChanges.{unlink_found, unlink_light, unlink_still}
+use Rattle.one_update.proofs.PendingChanges.{unlink_unsteady, unlink_light, unlink_still}
 use Rattle.one_update.proofs.drafting.drop_edge.Goals as goal
 
 pub returns-in_err-draft_unlink-clause-cost : goal.returns-in_err-draft_unlink-clause-cost
@@ -27,7 +27,7 @@ returns-clause-cost g c =
     omega (arith, light, cost, rest)
 
 pub resettle-requires-clause-targets : goal.resettle-requires-clause-targets
-resettle-requires-clause-targets g c = unlink_found c.args.after.now c.args.base.now c.args.u c.args.v c.requires.before c.requires.unlinks
+resettle-requires-clause-targets g c = unlink_unsteady c.args.after.now c.args.base.now c.args.u c.args.v c.requires.before c.requires.unlinks
 
 pub returns-in_err-note_touched-clause-cost : goal.returns-in_err-note_touched-clause-cost
 returns-in_err-note_touched-clause-cost g c =

@@ -5,7 +5,7 @@ use Rattle.graph_spec.specs.Shapes.{shape_of}
 use Rattle.graph_update.specs.PendingChanges.{graph_after}
 use Rattle.quotient_draft.specs.Drafts.{shown_blocks}
 use Rattle.one_spec.proofs.SplitRounds.{stable_at_end}
-use Rattle.one_update.proofs.PhaseLaws.{all_found, reach_cost}
+use Rattle.one_update.proofs.PhaseLaws.{reach_cost}
 use Rattle.one_update.proofs.Unreached.{split_reached, split_of}
 use Rattle.one_update.proofs.phases.split.Goals as goal
 
@@ -26,13 +26,13 @@ pub returns-in_err-split-clause-cost : goal.returns-in_err-split-clause-cost
 returns-in_err-split-clause-cost g c =
     let are = subst (AreTargets c.args.after.now.before c.args.after.now.change) (sym (c.deref.ensures.value ∙ c.in_ok-targets.ensures)) c.requires.targets in
     reach_cost c.args.after.now.before c.args.after.now.change c.deref.result.now c.args.steps.now c.split.new.steps c.created-known.ensures.after
-    (all_found c.args.after.now.before c.args.after.now.change c.deref.result.now are) c.split.ensures.cost
+    (λ n h. sym (are.members n) ∙ h) c.split.ensures.cost
 
 pub returns-clause-cost : goal.returns-clause-cost
 returns-clause-cost g c =
     let are = subst (AreTargets c.args.after.now.before c.args.after.now.change) (sym (c.deref.ensures.value ∙ c.in_ok-targets.ensures)) c.requires.targets in
     reach_cost c.args.after.now.before c.args.after.now.change c.deref.result.now c.args.steps.now c.split.new.steps c.created-known.ensures.after
-    (all_found c.args.after.now.before c.args.after.now.change c.deref.result.now are) c.split.ensures.cost
+    (λ n h. sym (are.members n) ∙ h) c.split.ensures.cost
 
 pub returns-clause-shown : goal.returns-clause-shown
 returns-clause-shown g c =

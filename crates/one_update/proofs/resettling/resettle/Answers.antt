@@ -21,22 +21,22 @@ split-requires g c = record {
 pub returns-in_err-split-clause-cost : goal.returns-in_err-split-clause-cost
 returns-in_err-split-clause-cost g c =
     reach_cost c.args.after.now.before c.args.after.now.change c.args.targets.now c.args.steps.now c.split.new.steps c.requires.before.graph_after
-    c.requires.targets c.split.ensures.cost
+    c.requires.targets.among c.split.ensures.cost
 
 pub returns-in_err-add_blocks-clause-cost : goal.returns-in_err-add_blocks-clause-cost
 returns-in_err-add_blocks-clause-cost g c =
     reach_cost c.args.after.now.before c.args.after.now.change c.args.targets.now c.args.steps.now c.split.new.steps c.requires.before.graph_after
-    c.requires.targets c.split.ensures.cost
+    c.requires.targets.among c.split.ensures.cost
 
 pub returns-in_err-merge-clause-cost : goal.returns-in_err-merge-clause-cost
 returns-in_err-merge-clause-cost g c =
     reach_cost c.args.after.now.before c.args.after.now.change c.args.targets.now c.args.steps.now c.split.new.steps c.requires.before.graph_after
-    c.requires.targets c.split.ensures.cost
+    c.requires.targets.among c.split.ensures.cost
 
 pub returns-clause-cost : goal.returns-clause-cost
 returns-clause-cost g c =
     reach_cost c.args.after.now.before c.args.after.now.change c.args.targets.now c.args.steps.now c.split.new.steps c.requires.before.graph_after
-    c.requires.targets c.split.ensures.cost
+    c.requires.targets.among c.split.ensures.cost
 
 pub merge-requires-clause-graph : goal.merge-requires-clause-graph
 merge-requires-clause-graph g c =

@@ -4,7 +4,7 @@ use Rattle.one_update.specs.OneDrafts.{AreTargets, ShowsStableBut}
 use Rattle.label_graph.specs.GraphViews.{label_number}
 use Rattle.graph_update.specs.PendingChanges.{graph_after}
 use Rattle.quotient_draft.specs.Drafts.{shown_blocks, shown_labels}
-use Rattle.one_update.proofs.PendingChanges.{link_found, link_targets}
+use Rattle.one_update.proofs.PendingChanges.{link_targets, link_unsteady}
 use Rattle.one_update.proofs.PhaseLaws.{labels_but_found, stable_there}
 use Rattle.one_update.proofs.tests.are_parted.Goals as goal
 
@@ -16,10 +16,10 @@ split-requires-clause-shown g c =
       over = changed.over;
       stable =
           stable_there c.args.after.now.before c.args.after.now.change (c.args.edge.1 ∷ []) c.args.base.now c.draft_link.new.draft c.requires.before.graph c.requires.before.graph_after
-          c.requires.before.fits (link_found c.args.after.now c.args.base.now c.args.edge.0 c.args.edge.1 c.requires.before c.requires.links) changed;
+          c.requires.before.fits (link_unsteady c.args.after.now c.args.base.now c.args.edge.0 c.args.edge.1 c.requires.before c.requires.links) changed;
       block_labels =
           labels_but_found c.args.after.now.before c.args.after.now.change (c.args.edge.1 ∷ []) c.args.base.now c.draft_link.new.draft
-          (link_found c.args.after.now c.args.base.now c.args.edge.0 c.args.edge.1 c.requires.before c.requires.links) changed;
+          (link_unsteady c.args.after.now c.args.base.now c.args.edge.0 c.args.edge.1 c.requires.before c.requires.links) changed;
       supports = changed.supports;
     })
 

@@ -1,0 +1,48 @@
+-- The nodes at which a change may leave a partition unstable: those of which it alters the label or the parent blocks.
+use Rattle.std.specs.Prelude.{◌≡◌, ℕ, ◌++◌, ◌&&◌, not, Bool, false, List, [], ◌∷◌, Option, None, Some, IsTrue, nat_eq, nat_lt}
+use Rattle.std.specs.List.{IsDistinct}
+use Rattle.graph_spec.specs.Graphs.{Graph, is_live, label_of, has_edge}
+use Rattle.graph_spec.specs.Members.{at, has}
+use Rattle.change_spec.specs.Steps.{Step, after}
+use Rattle.change_spec.specs.Altered.{targets}
+use Rattle.bisim_spec.specs.Partitions.{Together}
+use Rattle.bisim_spec.specs.IndexGraphs.{SupportTable, support_at}
+use Rattle.bisim_spec.specs.declared.sides.Side.TheVariants.{Parents}
+use Rattle.graph_effects.specs.Effects.{EffectLists}
+use Rattle.graph_effects.specs.StepEffects.{node_if, live_ends}
+use Rattle.quotient.specs.Quotients.{Quotient}
+
+-- nodes that pass have parents in the same blocks in both graphs
+pub record KeepParents (g g2 : Graph) (p : List (Option ℕ)) (keeps : ℕ → Bool) : Type 0 where
+  pub into : (x y : ℕ) → IsTrue (keeps y) → IsTrue (has_edge g x y) → (z : ℕ) × IsTrue (has_edge g2 z y) × Together p x z
+  pub back : (x y : ℕ) → IsTrue (keeps y) → IsTrue (has_edge g2 x y) → (z : ℕ) × IsTrue (has_edge g z y) × Together p x z
+
+-- a node of the graph that isn't listed
+abbrev pub is_unlisted : Graph → List ℕ → ℕ → Bool
+is_unlisted g2 found n = is_live g2 n && not (has found n)
+
+-- targets of the change, each once: all nodes of the next graph of which the label or the parent blocks aren't what they were
+pub record AreUnsteady (g : Graph) (c : List Step) (p : List (Option ℕ)) (found : List ℕ) : Type 0 where
+  pub once : IsDistinct nat_eq found
+  pub among : (n : ℕ) → IsTrue (has found n) → IsTrue (targets c g n)
+  pub labels : (n : ℕ) → IsTrue (is_unlisted (after c g) found n) → label_of g n ≡ label_of (after c g) n
+  pub parents : KeepParents g (after c g) p (is_unlisted (after c g) found)
+
+-- whether both are blocks, the first with support to the second
+abbrev pub supports_block : SupportTable → Option ℕ → Option ℕ → Bool
+supports_block t None o = false
+supports_block t (Some a) None = false
+supports_block t (Some a) (Some b) = nat_lt 0 (support_at t a b)
+
+-- whether both nodes have blocks, that of the first with support to that of the second
+abbrev pub supports_edge : Quotient → ℕ → ℕ → Bool
+supports_edge q u v = supports_block q.supports (at q.blocks.block_of u) (at q.blocks.block_of v)
+
+-- the ends of those of the edges that lead between blocks without support
+abbrev pub unsupported_ends : Quotient → List (ℕ × ℕ) → List ℕ
+unsupported_ends q [] = []
+unsupported_ends q (e ∷ es) = node_if (not (supports_edge q e.0 e.1)) e.1 ++ unsupported_ends q es
+
+-- the nodes that come, those that get another label, those that lose a parent, and those that get one in a block without support
+abbrev pub unsteady_nodes : Quotient → Graph → EffectLists → List ℕ
+unsteady_nodes q g2 e = ((e.came ++ e.relabelled) ++ live_ends Parents g2 e.lost) ++ unsupported_ends q e.added
