@@ -17,6 +17,7 @@ use Rattle.index_file.specs.SavedIndexes.{SavesFile}
 use Rattle.index_file.specs.WholeFiles.{IsFileOf, CanBeSaved, IsIndexFile}
 use Rattle.index_file.proofs.OneFile.{one_file}
 use Rattle.index_file.proofs.KeptFiles.{saved_spelled}
+use Rattle.index_file.proofs.ReadSpelled.{spelled_read}
 
 -- ---- stable and minimal are said of which nodes are in one block, however blocks are numbered
 
@@ -97,6 +98,7 @@ saved_whole g kept text can saves =
       file = s.0;
       spelled = s.1;
       only = λ other h. one_file text other s.0 h s.1;
+      reads = λ limits within. spelled_read limits text s.0 s.1 within;
       holds = s.2;
       fits = each_fits g kept s.0 can s.2;
     }

@@ -17,6 +17,7 @@ mod SavedLaws
 mod SavedViewLaws
 mod OneStatement
 mod OneOutcome
+mod ReadSpelled
 mod Matches
 mod WrittenLines
 mod TakenTexts

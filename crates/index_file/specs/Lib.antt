@@ -11,6 +11,7 @@ pub mod ReadViews
 pub mod Drafts
 pub mod SavedGraphs
 pub mod ReadSteps
+pub mod ReadFiles
 pub mod WrittenFiles
 pub mod GraphParts
 pub mod BlockRanks

@@ -5,6 +5,7 @@ use Rattle.graph_spec.specs.Shapes.{Shape, IsNode, shape_of}
 use Rattle.bisim_spec.specs.declared.kind.Kind.{Kind}
 use Rattle.bisim_spec.specs.declared.kind.Kind.TheVariants as kind
 use Rattle.bisim_spec.specs.Partitions.{Agrees}
+use Rattle.graph_spec.specs.declared.limits.Limits.{Limits}
 use Rattle.path_query.specs.Labels.{SpellsLabel}
 use Rattle.index_api.specs.declared.kinds.Via.{Via}
 use Rattle.index_api.specs.declared.kinds.Via.TheVariants.{A, One, Fb, B}
@@ -12,7 +13,9 @@ use Rattle.index_api.specs.IndexOrder.{levels_below}
 use Rattle.index_api.specs.IndexKinds.{KeptIndexes, has_kind, is_kept, Relates}
 use Rattle.index_file.specs.SavedFiles.{SavedFile, SavedView, seen_of}
 use Rattle.index_file.specs.FittingViews.{IsStableMinimal, FitsView}
-use Rattle.index_file.specs.Reads.{Spelled}
+use Rattle.index_file.specs.Reads.{Spelled, Reads}
+use Rattle.index_file.specs.Reads as outcome
+use Rattle.index_file.specs.ReadFiles.{IsWithin}
 use Rattle.index_file.specs.WrittenFiles.{head_text, view_text, rank_of}
 
 -- a view to be written: its index, and whether two nodes are in one of its blocks
@@ -98,10 +101,12 @@ pub record CanBeSaved (g : Graph) (kept : KeptIndexes) : Type 0 where
   pub labels : HasLabels g
   pub one : is_kept kept One ≡ true → IsStableMinimal (shape_of g) kept.one
 
--- The text is the index file of the graph and of the indexes that are kept: it holds these and nothing else, and each view fits.
+-- The text is the index file of the graph and of the indexes that are kept: it holds these and nothing else, it is read as that, unless
+-- a line of it passes a limit, and each view fits.
 pub record IsIndexFile (g : Graph) (kept : KeptIndexes) (text : List ℕ) : Type 0 where
   pub file : SavedFile
   pub spelled : Spelled text file
   pub only : (other : SavedFile) → Spelled text other → other ≡ file
+  pub reads : (limits : Limits) → IsWithin limits text → Reads limits text (outcome.holds file)
   pub holds : IsFileOf g kept file
   pub fits : (j : ℕ) → j < length file.views → FitsView file j

@@ -2,7 +2,9 @@
 ghost use Rattle.std.specs.Prelude.{◌≡◌, ◌≢◌, ◌<◌, ◌^◌, ◌-◌, ◌+◌, false, List, ℕ, OnOk, IfOk, IfErr, IsErrOf, IsTrue, Err};
 ghost use Rattle.px_base.specs.Causes.{MayHaveRisen};
 ghost use Rattle.index_file.specs.Readings.{is_complete, file_of};
-ghost use Rattle.index_file.specs.Reads.{Outcome, Reads, holds, at_start, IsTaken};
+ghost use Rattle.index_file.specs.Reads.{Outcome, Reads, Spelled, holds, at_start, IsTaken};
+ghost use Rattle.index_file.specs.ReadFiles.{SpelledIn, RefusesNone, IsWithin};
+ghost use Rattle.index_file.specs.SavedFiles.{SavedFile};
 ghost use Rattle.index_file.specs.ReadSteps.{TellsOutcome, TellsLine, ReadsAhead, ReadsRest, ReadsObservable, LacksFile, CanRead, ReadsOn};
 ghost use Rattle.index_file.specs.declared.reading.SavedError.TheVariants.{Memory as NoMemory};
 
@@ -177,6 +179,7 @@ fn saved_of(alloc: Global, draft: Draft) -> Result<Saved, SavedError>
 /// early gives `Syntax` with the number behind its last line. `Missing` comes where there is no file of that name, and `Fault` where
 /// a call on the shelf failed. Expected O(b) for a file of b bytes. While it reads it takes 8 bytes for each number and for each
 /// edge, 4 for each rank, the texts of the labels, and the longest line.
+#[tactic(auto, using(crate::proofs::ReadSpelled::spelled_read))]
 pub fn read<H: Shelf>(
     alloc: Global,
     shelf: &mut H,
@@ -187,6 +190,12 @@ pub fn read<H: Shelf>(
     ensures read { IfOk result (λ s. ReadsObservable limits.now (H.files shelf.old) name.now (holds s)) }
     // The number of a line comes only where the text of the file is refused there, for that reason.
     ensures refused { IfErr result (TellsOutcome (ReadsObservable limits.now (H.files shelf.old) name.now)) }
+    // That text spells the value.
+    ensures spelled { IfOk result (SpelledIn (H.files shelf.old) name.now) }
+    // `Syntax` comes only where the text spells nothing.
+    ensures unspelled { IfErr result (RefusesNone (H.files shelf.old) name.now) }
+    // A text that spells a file is read as that file, if no line of it passes a limit.
+    ensures whole { (text : List ℕ) (file : SavedFile) → Spelled text file → IsWithin limits.now text → Reads limits.now text (holds file) }
     // A text gives one outcome at most.
     ensures once { (text : List ℕ) (a b : Outcome) → Reads limits.now text a → Reads limits.now text b → a ≡ b }
     ensures missing { IsErrOf result SavedError.Missing → LacksFile (H.files shelf.old) name.now }
