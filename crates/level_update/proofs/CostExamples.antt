@@ -1,17 +1,19 @@
 -- How many steps an update may take, at two chains a, b, c and a node x that is linked to the second one.
-use Rattle.std.proofs.Common.{◌≡◌, ◌*◌, ℕ, List, [], ◌∷◌, refl}
+use Rattle.std.proofs.Common.{◌≡◌, ◌+◌, ◌*◌, ℕ, List, [], ◌∷◌, nat_eq, refl}
 use Rattle.std.specs.Prelude.{codes}
+use Rattle.graph_spec.specs.Shapes.{Shape}
 use Rattle.bisim_spec.specs.declared.sides.Sides.TheVariants.{Parents}
-use Rattle.bisim_spec.proofs.WrittenGraphs.{graph_from}
-use Rattle.change_spec.specs.Steps.{link}
-use Rattle.level_update.specs.FamilyDrafts.{most_steps}
+use Rattle.bisim_spec.specs.SidedLevels.{affected}
+use Rattle.bisim_spec.specs.Weights.{weight}
+use Rattle.bisim_spec.proofs.WrittenShapes.{shape_of_list}
 
 chain_labels : List (List ℕ)
 chain_labels = codes "a" ∷ codes "b" ∷ codes "c" ∷ codes "a" ∷ codes "b" ∷ codes "c" ∷ codes "x" ∷ []
 
-chain_edges : List (ℕ × ℕ)
-chain_edges = (0, 1) ∷ (1, 2) ∷ (3, 4) ∷ (4, 5) ∷ []
+-- once x is linked to the second a
+linked_chains : Shape
+linked_chains = shape_of_list chain_labels ((0, 1) ∷ (1, 2) ∷ (3, 4) ∷ (4, 5) ∷ (6, 3) ∷ [])
 
--- within two edges of the link's end lie the three nodes of the second chain, of the weights 3, 3 and 2
-linked_chain : most_steps Parents (graph_from (codes "a" ∷ codes "b" ∷ codes "c" ∷ codes "x" ∷ []) chain_labels chain_edges) (link 6 3 ∷ []) 2 ≡ 8 * 3 * 9
-linked_chain = refl
+-- within two edges of the link's end lie the three nodes of the second chain, of the weights 3, 3 and 2, and the change is one step
+linked_steps : 8 * (2 + 1) * (weight linked_chains (affected Parents linked_chains (λ n. nat_eq n 3) 2) + 1) ≡ 216
+linked_steps = refl

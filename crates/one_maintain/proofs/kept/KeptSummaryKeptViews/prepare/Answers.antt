@@ -24,9 +24,9 @@ invariant_of-self-in-Err g c =
     let unstaged : c.self.inside.staged ≡ false =
     ap (λ (k : KeptQuotient). k.staged) c.self.view_is ∙ (ready_kept c.args.self.now c.args.graph.now.graph c.requires.ready).unstaged in
     record {
-      kept = subst (IsKeptDraft c.fill.new.base c.clear.new.self.draft) (sym unstaged) c.clear.ensures.empty;
+      kept = subst (IsKeptDraft c.fill.new.base c.clear.new.self) (sym unstaged) c.clear.ensures.empty;
       parentless = c.fill.ensures.covers;
-      shown = covers_cleared c.fill.new.base c.clear.new.self.draft c.fill.new.parentless c.clear.ensures.empty c.fill.ensures.covers;
+      shown = covers_cleared c.fill.new.base c.clear.new.self c.fill.new.parentless c.clear.ensures.empty c.fill.ensures.covers;
     }
 
 pub returns-in-Ok-clause-staged : goal.returns-in-Ok-clause-staged
@@ -40,7 +40,7 @@ returns-in-Ok-clause-staged g c =
 
 pub returns-in-Err-clause-err : goal.returns-in-Err-clause-err
 returns-in-Err-clause-err g c =
-    let k2 : KeptQuotient = record { base = c.fill.new.base; draft = c.clear.new.self.draft; staged = c.self.inside.staged } in
+    let k2 : KeptQuotient = record { base = c.fill.new.base; draft = c.clear.new.self; staged = c.self.inside.staged } in
     let was = (ready_kept c.args.self.now c.args.graph.now.graph c.requires.ready).unstaged in
     let same = subst (λ (k : KeptQuotient). view_of k2.base ≡ view_of k.base) c.self.view_is c.fill.ensures.same in
     kept_meaning c.args.self.now k2 same was (ap (λ (k : KeptQuotient). k.staged) c.self.view_is ∙ was)
