@@ -16,5 +16,5 @@ linked_chains = shape_of_list chain_labels ((0, 1) ∷ (1, 2) ∷ (3, 4) ∷ (4,
 
 -- within two edges of the link's end lie the three nodes of the second chain, of the weights 3, 3 and 2, and the change is one step
 linked_steps : 8 * (2 + 1) * (weight linked_chains (affected Parents linked_chains (λ n. nat_eq n 3) 2) + 1) ≡ 216
-  unfolding linked_chains chain_labels
+unfolding linked_chains chain_labels
 linked_steps = refl
