@@ -1,6 +1,6 @@
 #!/usr/bin/env python3
 """Has bin/pathindex change generated graphs by groups, and prints what a group takes beside the same changes one by one: random changes,
-links that leave their ends alike, and links from one node with the drop of another one; and what a change at a node with many edges
+links that leave their ends alike, loops at like nodes, and links from one node with the drop of another one; and what a change at a node with many edges
 takes beside a build of the same indexes, which reads each edge once for each level. The gate doesn't run this.
 
     bench_groups.py [PROGRAM [EDGES]]
@@ -69,11 +69,13 @@ def measure_groups(program, folder):
 
 
 def measure_like(program, folder, graph, first):
-    """Links between like nodes, and links from one of them with the drop of a node to which none leads."""
+    """Links between like nodes, loops at like nodes, and links from one node with the drop of a node to which none leads."""
     nodes = ["node from"] * STEPS + ["node onto"] * STEPS
     like = [f"link n{first + i} n{first + STEPS + i}" for i in range(STEPS)]
+    loops = [f"link n{first + i} n{first + i}" for i in range(STEPS)]
     fan = [f"link n{first} n{first + STEPS + i}" for i in range(STEPS - 1)] + [f"drop n{first + 2 * STEPS - 1}"]
-    for what, lines in ((f"{STEPS:,} like links", like), (f"{STEPS - 1:,} links from one node, and a drop", fan)):
+    cases = ((f"{STEPS:,} like links", like), (f"{STEPS:,} loops", loops), (f"{STEPS - 1:,} links from one node, and a drop", fan))
+    for what, lines in cases:
         scripts = {"the new nodes": nodes, "and these one by one": nodes + lines, "and these in a group": nodes + grouped(lines)}
         measure(program, folder, graph, scripts, TURNS, f"{TRIPLES:,} triples, {what}")
 

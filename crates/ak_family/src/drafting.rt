@@ -77,8 +77,7 @@ impl AkDraft {
         Ok(AkDraft { levels })
     }
 
-    /// Drops all that is drafted. The memory of small tables is kept, that of large ones given back. O(k + d) for d entries that
-    /// are drafted, no memory.
+    /// Drops all that is drafted, as `KeyedDraft::clear` does at each level. No memory.
     pub fn clear(&mut self)
         ensures count { length self.new ≡ length self.old }
         ensures empty { AreEmpty self.new }
@@ -87,6 +86,16 @@ impl AkDraft {
         for i in 0..self.levels.len() {
             self.levels[i].clear();
         }
+    }
+
+    /// Whether it has had many further blocks at a level, so that it had better be dropped than kept. O(k), no memory.
+    pub fn is_large(&self) -> bool {
+        for i in 0..self.levels.len() {
+            if self.levels[i].is_large() {
+                return true;
+            }
+        }
+        false
     }
 }
 

@@ -1,7 +1,8 @@
 // The family in force, with what a change to come will make of it.
-ghost use Rattle.std.specs.Prelude.{◌≡◌, ◌+◌, ◌≤◌, ℕ, Some, IfOk, length};
+ghost use Rattle.std.specs.Prelude.{◌≡◌, ◌+◌, ◌≤◌, ℕ, List, IfOk, length};
 ghost use Rattle.change_spec.specs.Steps.{after};
 ghost use Rattle.graph_steps.specs.NewChanges.{IsNew};
+ghost use Rattle.keyed_quotient.specs.KeyedQuotients.{KeyedQuotient};
 ghost use Rattle.ak_family.specs.Families.{HaveSupportedKeys};
 ghost use Rattle.ak_family.specs.LevelDrafts.{AreSeenAs, ShowsFamily, ShowsKeys};
 ghost use Rattle.level_update.specs.FamilyDrafts.{FamilyFits, ShownFit, most_steps};
@@ -34,7 +35,7 @@ pub trait CountedSides {
 }
 
 /// The levels 0 to k in force, by the sides of `S`, and a draft of what a change to come will make of them. Once it is
-/// committed the draft is kept, emptied, so that the next change finds its tables made.
+/// committed the draft is kept, emptied, so that the next change finds its tables made. A large one is dropped.
 pub struct KeptLevels<S: CountedSides> {
     family: AkFamily,
     staged: Option<AkDraft>,
@@ -90,11 +91,15 @@ fn emptied(alloc: Global, family: &AkFamily, spare: Option<AkDraft>) -> Result<A
     }
 }
 
-// Keeps an emptied draft.
+// Keeps an emptied draft, unless it is large.
 fn keep(spare: &mut Option<AkDraft>, draft: AkDraft)
-    ensures { spare.new ≡ Some draft }
+    ensures { (f : List KeyedQuotient) → IsEmptyOver f draft → IsSpare f spare.new }
 {
-    *spare = Some(draft);
+    if draft.is_large() {
+        *spare = None;
+    } else {
+        *spare = Some(draft);
+    }
 }
 
 // What a change will make of a family.

@@ -26,7 +26,7 @@ use std::alloc::Global;
 use std::marker::Model;
 use std::sync::ledger::Ledger;
 
-// Past so many keys the tables of a draft give their memory back when they are emptied.
+// Past so many further blocks a draft is large.
 const MOST_KEPT: usize = 72;
 
 /// What is drafted over a base, which is a quotient whose blocks have keys: further blocks with their keys, moves of nodes,
@@ -272,31 +272,18 @@ impl KeyedDraft {
         Ok(())
     }
 
-    /// Drops all that is drafted. The memory of small tables is kept, that of large ones given back. O(d) for d entries that are
-    /// drafted, no memory.
+    /// Drops all that is drafted. O(t) for t further blocks at the largest number that the draft has had, and for the other entries
+    /// that are drafted; no memory. The memory of small tables is kept, and that of large ones but for further blocks given back.
     pub fn clear(&mut self)
         ensures empty { self.new ≡ no_keyed_changes }
     {
-        let many = self.blocks.len() > MOST_KEPT;
         self.draft.clear();
         self.blocks.clear();
         self.keys.clear();
-        if many {
-            renew(&mut self.blocks, &mut self.keys);
-        }
     }
-}
 
-// Empty tables of further blocks and their keys give their memory back. Where there is none for a new table of keys, both stay.
-fn renew(blocks: &mut Vec<u32>, keys: &mut KeyTable)
-    requires blocks { blocks.old.items ≡ [] }
-    requires keys { keys.old ≡ [] }
-    ensures blocks { blocks.new.items ≡ [] }
-    ensures keys { keys.new ≡ [] }
-{
-    let alloc = *blocks.allocator();
-    if let Ok(fresh) = KeyTable::new(alloc) {
-        *keys = fresh;
-        *blocks = Vec::new(alloc);
+    /// Whether it has had many further blocks, so that it had better be dropped than cleared. O(1), no memory.
+    pub fn is_large(&self) -> bool {
+        self.blocks.capacity() > MOST_KEPT
     }
 }
