@@ -22,7 +22,7 @@ take_past (s ∷ ss) zero n h = absurd (omega (arith, h))
 take_past (s ∷ ss) (suc i) n h = take_past ss i n (omega (arith, h))
 
 -- a step that takes the node away names it
-takes_named : (s : Step) (n : ℕ) → takes_away s n ≡ true → names n s ≡ true
+pub takes_named : (s : Step) (n : ℕ) → takes_away s n ≡ true → names n s ≡ true
 takes_named (node t) n h = absurd (true≢false (sym h))
 takes_named (link u v) n h = absurd (true≢false (sym h))
 takes_named (unlink u v) n h = absurd (true≢false (sym h))

@@ -11,3 +11,4 @@ pub mod Mapped
 pub mod Verdicts
 pub mod Judged
 pub mod LastDrops
+pub mod FirstTakes

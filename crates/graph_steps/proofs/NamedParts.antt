@@ -2,10 +2,9 @@
 use Rattle.std.proofs.Common.{◌≡◌, ℕ, zero, suc, ◌+◌, ◌-◌, ◌<◌, ◌≤◌, Bool, true, false, List, [], ◌∷◌, ◌++◌, length, take, drop, get_or, refl, sym, ap, ◌∙◌, arith, inl, inr, true≢false}
 use Rattle.std.specs.Prelude.{◌||◌, not, IsTrue, Some, min, slice_get}
 use Rattle.std.specs.List.{list_any}
-use Rattle.std.proofs.Math.Bool.{or-true}
 use mathlib.Core.Bool.{beq}
 use Rattle.std.proofs.Math.Seq.{drop-drop, drop-cons}
-use Rattle.std.proofs.lemmas.List.{take-append-drop, take_all, drop-take, length-take-le, length-map}
+use Rattle.std.proofs.lemmas.List.{take_all, drop-take, length-take-le, length-map}
 use Rattle.std.proofs.lemmas.List.Folds.{list_any-append}
 use Rattle.std.proofs.lemmas.Bool.{cases_Bool, or_parts, and_parts, not-true}
 use Rattle.graph_spec.specs.Graphs.{Graph, is_live}
@@ -13,7 +12,7 @@ use Rattle.change_spec.specs.Steps.{Step, after}
 use Rattle.change_spec.specs.Places.{CanMakeAll}
 use Rattle.change_spec.specs.Named.{names, takes_away, is_named, is_dropped}
 use Rattle.change_spec.specs.Shown.{concerned, edge_after, edge_by}
-use Rattle.change_spec.proofs.NamedNodes.{is_added, live_after, unnamed_stays, unnamed_parent, unnamed_child}
+use Rattle.change_spec.proofs.NamedNodes.{is_added, live_after, unnamed_parent, unnamed_child}
 use Rattle.change_spec.proofs.ShownNeighbours.{unconcerned, settled}
 use Rattle.graph_steps.specs.declared.changes.Step.{Step as Asked}
 use Rattle.graph_steps.specs.StepLists.{step_of, steps_of}
@@ -142,21 +141,6 @@ some_step (x ∷ xs) (suc i) h = (
     (r.0, r.1 ∙ ap (λ k. r.0 ∷ drop k (x ∷ xs)) same))
 
 -- ---- what the steps that name a node decide
-
--- whether one takes the node away
-pub dropped_more : (c : List Step) (s : Step) (n from i j : ℕ) → from ≤ i → drop i c ≡ s ∷ drop (i + 1) c → IsNextNamed n c (i + 1) j → is_dropped (stretch c from i) n ≡ false
-    → takes_away s n ≡ false → is_dropped (stretch c from j) n ≡ false
-dropped_more c s n from i j low there next before stays =
-    ap (λ k. is_dropped k n) (stretch_more c s from i j low next.ordered there)
-    ∙ list_any-append (λ t. takes_away t n) (stretch c from i) (s ∷ stretch c (i + 1) j)
-    ∙ ap (λ b. b || (takes_away s n || is_dropped (stretch c (i + 1) j) n)) before
-    ∙ ap (λ b. b || is_dropped (stretch c (i + 1) j) n) stays ∙ unnamed_stays (stretch c (i + 1) j) n next.between
-
-pub dropped_here : (c : List Step) (s : Step) (n i : ℕ) → drop i c ≡ s ∷ drop (i + 1) c → takes_away s n ≡ true → is_dropped c n ≡ true
-dropped_here c s n i there goes =
-    ap (λ k. is_dropped k n) (sym (take-append-drop i c) ∙ ap (λ k. take i c ++ k) there)
-    ∙ list_any-append (λ t. takes_away t n) (take i c) (s ∷ drop (i + 1) c)
-    ∙ ap (λ b. is_dropped (take i c) n || (b || is_dropped (drop (i + 1) c) n)) goes ∙ or-true (is_dropped (take i c) n)
 
 -- what is live behind the steps, none of them takes away
 pub live_stays : (c : List Step) (g : Graph) (n : ℕ) → CanMakeAll c g → IsTrue (is_live (after c g) n) → is_dropped c n ≡ false

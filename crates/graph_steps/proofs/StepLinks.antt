@@ -13,7 +13,8 @@ use Rattle.graph_steps.specs.declared.chains.Ends.{Ends}
 use Rattle.graph_steps.specs.StepLists.{step_of, steps_of}
 use Rattle.graph_steps.specs.NamedSteps.{IsNextNamed}
 use Rattle.graph_steps.proofs.NamedParts.{got_within}
-use Rattle.graph_steps.specs.StepLinks.{names_at, nowhere, IsAhead, IsLater, IsLast, is_first, next_of, with_next, link_at, with_link, AreLinks, no_ends, ends_at, first_at, last_at, ends_with, AreNoted, AreEnds, Notes, LeadsTo}
+use Rattle.graph_steps.proofs.FirstTakes.{taken_more, taken_kept}
+use Rattle.graph_steps.specs.StepLinks.{names_at, nowhere, IsAhead, IsLater, IsLast, is_first, next_of, with_next, link_at, with_link, AreLinks, no_ends, ends_at, first_at, last_at, taken_at, is_drop, ends_with, IsTaken, AreNoted, AreEnds, Notes, LeadsTo}
 
 -- ---- the step at a place
 
@@ -267,25 +268,29 @@ last_kept c s n q is off = record {
   there = elim is.there [ inl on ↦ inl (named_stays c s q n on) | inr e ↦ inr e ];
 }
 
-noted_more : (c : List Step) (s : Step) (old new : List (ℕ × Ends)) → length c ≤ nowhere → AreNoted c old → Notes (λ m. names m s) (length c) old new → AreNoted (c ++ s ∷ []) new
+noted_more : (c : List Step) (s : Step) (old new : List (ℕ × Ends)) → length c ≤ nowhere → AreNoted c old → Notes (λ m. names m s) (is_drop s) (length c) old new → AreNoted (c ++ s ∷ []) new
 noted_more c s old new few are notes = record {
   first = λ n. subst (λ (e : Ends). IsLater n (c ++ s ∷ []) 0 e.first) (sym (notes n)) (elim (cases_Bool (names n s)) [
-    | inl on ↦ subst (λ b. IsLater n (c ++ s ∷ []) 0 (if b then ends_with (ends_at old n) (length c) else ends_at old n).first) (sym on) (first_more c s n (first_at old n) few (are.first n) on)
-    | inr off ↦ subst (λ b. IsLater n (c ++ s ∷ []) 0 (if b then ends_with (ends_at old n) (length c) else ends_at old n).first) (sym off) (later_kept c s n 0 (first_at old n) (are.first n) off)
+    | inl on ↦ subst (λ b. IsLater n (c ++ s ∷ []) 0 (if b then ends_with (ends_at old n) (length c) (is_drop s) else ends_at old n).first) (sym on) (first_more c s n (first_at old n) few (are.first n) on)
+    | inr off ↦ subst (λ b. IsLater n (c ++ s ∷ []) 0 (if b then ends_with (ends_at old n) (length c) (is_drop s) else ends_at old n).first) (sym off) (later_kept c s n 0 (first_at old n) (are.first n) off)
   ]);
   last = λ n. subst (λ (e : Ends). IsLast n (c ++ s ∷ []) e.last) (sym (notes n)) (elim (cases_Bool (names n s)) [
-    | inl on ↦ subst (λ b. IsLast n (c ++ s ∷ []) (if b then ends_with (ends_at old n) (length c) else ends_at old n).last) (sym on) (last_more c s n on)
-    | inr off ↦ subst (λ b. IsLast n (c ++ s ∷ []) (if b then ends_with (ends_at old n) (length c) else ends_at old n).last) (sym off) (last_kept c s n (last_at old n) (are.last n) off)
+    | inl on ↦ subst (λ b. IsLast n (c ++ s ∷ []) (if b then ends_with (ends_at old n) (length c) (is_drop s) else ends_at old n).last) (sym on) (last_more c s n on)
+    | inr off ↦ subst (λ b. IsLast n (c ++ s ∷ []) (if b then ends_with (ends_at old n) (length c) (is_drop s) else ends_at old n).last) (sym off) (last_kept c s n (last_at old n) (are.last n) off)
+  ]);
+  taken = λ n. subst (λ (e : Ends). IsTaken n (c ++ s ∷ []) e.taken) (sym (notes n)) (elim (cases_Bool (names n s)) [
+    | inl on ↦ subst (λ b. IsTaken n (c ++ s ∷ []) (if b then ends_with (ends_at old n) (length c) (is_drop s) else ends_at old n).taken) (sym on) (taken_more c s n (taken_at old n) few (are.taken n) on)
+    | inr off ↦ subst (λ b. IsTaken n (c ++ s ∷ []) (if b then ends_with (ends_at old n) (length c) (is_drop s) else ends_at old n).taken) (sym off) (taken_kept c s n (taken_at old n) (are.taken n) off)
   ]);
 }
 
-pub ends_more : (ss : List Asked) (s : Step) (old new : List (ℕ × Ends)) → 0 < length ss → length ss < nowhere → AreNoted (steps_of ss) old → Notes (λ m. names m s) (length ss) old new
+pub ends_more : (ss : List Asked) (s : Step) (old new : List (ℕ × Ends)) → 0 < length ss → length ss < nowhere → AreNoted (steps_of ss) old → Notes (λ m. names m s) (is_drop s) (length ss) old new
     → AreEnds (steps_of ss ++ s ∷ []) new
 ends_more ss s old new some few are notes =
     let len = length-map ss step_of in
     let longer = length-append (steps_of ss) (s ∷ []) in
     record {
-      each = λ h. noted_more (steps_of ss) s old new (omega (arith, few, len)) are (subst (λ k. Notes (λ m. names m s) k old new) (sym len) notes);
+      each = λ h. noted_more (steps_of ss) s old new (omega (arith, few, len)) are (subst (λ k. Notes (λ m. names m s) (is_drop s) k old new) (sym len) notes);
       none = λ h. absurd (omega (arith, h, len, longer, some));
     }
 

@@ -38,6 +38,11 @@ pub record IsLast (n : ℕ) (c : List Step) (place : ℕ) : Type 0 where
   pub last : (k : ℕ) → names_at c k n ≡ true → (k ≤ place) × (names_at c place n ≡ true)
   pub there : (names_at c place n ≡ true) ⊎ (place ≡ nowhere)
 
+-- the place is that of the first step that takes the node away, and nowhere if none does
+pub record IsTaken (n : ℕ) (c : List Step) (place : ℕ) : Type 0 where
+  pub before : (k : ℕ) → k < place → takes_at c k n ≡ false
+  pub there : (takes_at c place n ≡ true) ⊎ (place ≡ nowhere)
+
 -- ---- the links of steps
 
 -- the node is the first one that the step names
@@ -72,10 +77,10 @@ pub record AreLinks (c : List Step) (links : List Links) : Type 0 where
   pub count : length links ≡ length c
   pub next : (i n : ℕ) → names_at c i n ≡ true → IsLater n c (i + 1) (link_at c links i n)
 
--- ---- the first step that names a node, and the last
+-- ---- the first step that names a node, the last, and the first that takes it away
 
 abbrev pub no_ends : Ends
-no_ends = record { first = nowhere; last = nowhere }
+no_ends = record { first = nowhere; last = nowhere; taken = nowhere }
 
 abbrev pub ends_at : List (ℕ × Ends) → ℕ → Ends
 ends_at ends n = unwrap_or (lookup (nat_eq n) ends) no_ends
@@ -86,10 +91,14 @@ first_at ends n = (ends_at ends n).first
 abbrev pub last_at : List (ℕ × Ends) → ℕ → ℕ
 last_at ends n = (ends_at ends n).last
 
+abbrev pub taken_at : List (ℕ × Ends) → ℕ → ℕ
+taken_at ends n = (ends_at ends n).taken
+
 -- of each node
 pub record AreNoted (c : List Step) (ends : List (ℕ × Ends)) : Type 0 where
   pub first : (n : ℕ) → IsLater n c 0 (first_at ends n)
   pub last : (n : ℕ) → IsLast n c (last_at ends n)
+  pub taken : (n : ℕ) → IsTaken n c (taken_at ends n)
 
 -- of a change of several steps; of one of fewer nothing is noted
 pub record AreEnds (c : List Step) (ends : List (ℕ × Ends)) : Type 0 where
@@ -104,13 +113,25 @@ pub record AreKept (c : List Step) (links : List Links) (ends : List (ℕ × End
 
 -- ---- one step more
 
--- the ends once a step at the place names the node as well
-abbrev pub ends_with : Ends → ℕ → Ends
-ends_with e place = record { first = min e.first place; last = place }
+-- the step takes away the node that it names
+abbrev pub is_drop : Step → Bool
+is_drop (node t) = false
+is_drop (link u v) = false
+is_drop (unlink u v) = false
+is_drop (drop u) = true
+is_drop (relabel u t) = false
 
--- a step at the place names these nodes, and no others
-abbrev pub Notes : (ℕ → Bool) → ℕ → List (ℕ × Ends) → List (ℕ × Ends) → Type 0
-Notes named place old new = (m : ℕ) → ends_at new m ≡ (if named m then ends_with (ends_at old m) place else ends_at old m)
+-- the place of the first step that takes the node away, once the one at the place names it as well
+abbrev pub taken_with : ℕ → ℕ → Bool → ℕ
+taken_with taken place takes = if takes then min taken place else taken
+
+-- the ends once a step at the place names the node as well, and may take it away
+abbrev pub ends_with : Ends → ℕ → Bool → Ends
+ends_with e place takes = record { first = min e.first place; last = place; taken = taken_with e.taken place takes }
+
+-- a step at the place names these nodes and no others, and may take them away
+abbrev pub Notes : (ℕ → Bool) → Bool → ℕ → List (ℕ × Ends) → List (ℕ × Ends) → Type 0
+Notes named takes place old new = (m : ℕ) → ends_at new m ≡ (if named m then ends_with (ends_at old m) place takes else ends_at old m)
 
 -- the last step before the place that names one of these nodes is linked to it
 abbrev pub LeadsTo : (ℕ → Bool) → ℕ → List Step → List (ℕ × Ends) → List Links → List Links → Type 0

@@ -1,11 +1,12 @@
-// Links from each step to the next ones that name its nodes, and for each node the first step that names it and the last.
-ghost use Rattle.std.specs.Prelude.{◌≡◌, ◌<◌, ◌≤◌, ◌+◌, ◌||◌, ◌++◌, ◌∷◌, [], OnOk, OnErr, length, drop, nat_eq};
+// Links from each step to the next ones that name its nodes, and for each node the first step that names it, the last, and
+// the first that takes it away.
+ghost use Rattle.std.specs.Prelude.{◌≡◌, ◌<◌, ◌≤◌, ◌+◌, ◌||◌, ◌++◌, ◌∷◌, [], OnOk, OnErr, false, length, take, drop, nat_eq};
 ghost use Rattle.indexmap.specs.IndexMap.{spare};
 ghost use Rattle.smallvec.specs.SmallVec.{HasRoomFor};
 ghost use Rattle.change_spec.specs.Named.{names, is_dropped as is_gone};
 ghost use Rattle.graph_steps.specs.StepLists.{step_of, steps_of};
 ghost use Rattle.graph_steps.specs.NamedSteps.{IsNextNamed, DropsLast};
-ghost use Rattle.graph_steps.specs.StepLinks.{nowhere, takes_at, is_first, next_of, with_next, link_at, with_link, ends_at, ends_with, AreLinks, AreEnds, AreNoted, IsLater, IsLast, IsAhead, Notes, LeadsTo};
+ghost use Rattle.graph_steps.specs.StepLinks.{nowhere, takes_at, is_first, is_drop, next_of, with_next, link_at, with_link, ends_at, taken_with, ends_with, AreLinks, AreEnds, AreNoted, IsLater, IsLast, IsAhead, Notes, LeadsTo};
 
 use crate::changes::{Step, names};
 use crate::degrees::{is_dropped, takes_away};
@@ -33,11 +34,12 @@ impl MadeWith<Global> for Links {
     }
 }
 
-/// The places of the first step that names a node, and of the last.
+/// The places of the first step that names a node, of the last, and of the first that takes it away.
 #[derive(Clone, Copy, Drop)]
 pub(crate) struct Ends {
     first: usize,
     last: usize,
+    taken: usize,
 }
 
 /// Of nodes that steps name.
@@ -125,26 +127,34 @@ fn noted(ends: &NodeEnds, n: NodeId) -> Ends
         None => Ends {
             first: NOWHERE,
             last: NOWHERE,
+            taken: NOWHERE,
         },
     }
 }
 
-fn ends_with(ends: Ends, place: usize) -> Ends
-    ensures { result ≡ ends_with ends place }
+fn taken_with(taken: usize, place: usize, takes: bool) -> usize
+    ensures { result ≡ taken_with taken place takes }
+{
+    if takes { taken.min(place) } else { taken }
+}
+
+fn ends_with(ends: Ends, place: usize, takes: bool) -> Ends
+    ensures { result ≡ ends_with ends place takes }
 {
     Ends {
         first: ends.first.min(place),
         last: place,
+        taken: taken_with(ends.taken, place, takes),
     }
 }
 
-// The step at a place names the node.
-fn note_node(ends: &mut NodeEnds, n: NodeId, place: usize)
+// The step at a place names the node, and may take it away.
+fn note_node(ends: &mut NodeEnds, n: NodeId, place: usize, takes: bool)
     requires room { 0 < spare ends.old }
-    ensures notes { Notes (λ m. nat_eq m n) place ends.old.entries ends.new.entries }
+    ensures notes { Notes (λ m. nat_eq m n) takes place ends.old.entries ends.new.entries }
     ensures room { spare ends.old ≤ spare ends.new + 1 }
 {
-    let more = ends_with(noted(ends, n), place);
+    let more = ends_with(noted(ends, n), place, takes);
     match ends.insert(n, more) {
         Ok(_) => (),
         Err(_) => unreachable!(),
@@ -153,25 +163,25 @@ fn note_node(ends: &mut NodeEnds, n: NodeId, place: usize)
 
 fn note_both(ends: &mut NodeEnds, u: NodeId, v: NodeId, place: usize)
     requires room { 2 ≤ spare ends.old }
-    ensures notes { Notes (λ m. nat_eq m u || nat_eq m v) place ends.old.entries ends.new.entries }
+    ensures notes { Notes (λ m. nat_eq m u || nat_eq m v) false place ends.old.entries ends.new.entries }
     ensures room { spare ends.old ≤ spare ends.new + 2 }
 {
-    note_node(ends, u, place);
-    note_node(ends, v, place);
+    note_node(ends, u, place, false);
+    note_node(ends, v, place, false);
 }
 
 // The nodes that the step at a place names.
 fn note_ends(ends: &mut NodeEnds, step: &Step, place: usize)
     requires room { 2 ≤ spare ends.old }
-    ensures notes { Notes (λ m. names m (step_of step.now)) place ends.old.entries ends.new.entries }
+    ensures notes { Notes (λ m. names m (step_of step.now)) (is_drop (step_of step.now)) place ends.old.entries ends.new.entries }
     ensures room { spare ends.old ≤ spare ends.new + 2 }
 {
     match step {
         Step::Node(_) => (),
         Step::Link(from, to) => note_both(ends, *from, *to, place),
         Step::Unlink(from, to) => note_both(ends, *from, *to, place),
-        Step::Drop(node) => note_node(ends, *node, place),
-        Step::Relabel(node, _) => note_node(ends, *node, place),
+        Step::Drop(node) => note_node(ends, *node, place, true),
+        Step::Relabel(node, _) => note_node(ends, *node, place, false),
     }
 }
 
@@ -365,4 +375,17 @@ pub(crate) fn drops_from(ends: &NodeEnds, steps: &[Step], from: usize, n: NodeId
         return false;
     }
     takes_away_at(steps, last, n)
+}
+
+/// Whether a step before a place takes the node away.
+pub(crate) fn drops_before(ends: &NodeEnds, steps: &[Step], past: usize, n: NodeId) -> bool
+    requires ends { AreEnds (steps_of steps.now) ends.now.entries }
+    requires past { past ≤ length steps.now }
+    ensures { result ≡ is_gone (take past (steps_of steps.now)) n }
+{
+    if steps.len() <= 1 {
+        return is_dropped(&steps[..past], n);
+    }
+    let taken = noted(ends, n).taken;
+    taken < past
 }

@@ -7,7 +7,7 @@ ghost use Rattle.graph_steps.specs.NamedSteps.{IsNextNamed, DropsLast};
 ghost use Rattle.graph_steps.specs.NodePlaces.{place_if, node_places};
 ghost use Rattle.smallvec.specs.SmallVec.{HasRoomFor};
 
-use crate::chains::{NodeEnds, StepLinks, drops_from, next_place, note, unlinked};
+use crate::chains::{NodeEnds, StepLinks, drops_before, drops_from, next_place, note, unlinked};
 use crate::parts::Front;
 use indexmap::IndexMap;
 use px_base::{Memory, NodeId, Text};
@@ -54,7 +54,8 @@ pub struct Change {
     steps: SmallVec<Step, 1>,
     // For each step the places of the next ones that name its nodes.
     links: StepLinks,
-    // From the second step on: for each node that steps name, the places of the first that does and of the last.
+    // From the second step on: for each node that steps name, the places of the first that does, of the last, and of the first that
+    // takes it away.
     ends: NodeEnds,
     // The places of the steps that add nodes, rising.
     places: SmallVec<usize, 1>,
@@ -185,6 +186,14 @@ impl Change {
         ensures { result ≡ is_dropped (drop from self.now) n }
     {
         drops_from(&self.ends, self.steps.as_slice(), from, n)
+    }
+
+    /// Whether a step before a place takes the node away. Expected O(1), no memory.
+    pub fn drops_before(&self, past: usize, n: NodeId) -> bool
+        requires { past ≤ length self.now }
+        ensures { result ≡ is_dropped (take past self.now) n }
+    {
+        drops_before(&self.ends, self.steps.as_slice(), past, n)
     }
 
     /// How many steps add a node. O(1), no memory.

@@ -23,7 +23,7 @@ fn is_added(graph: &Graph, created: u32, n: NodeId) -> bool
 }
 
 /// Whether the number is that of a live node once the first steps are made, which leave so many numbers allocated. Expected
-/// O(1), and the steps that name the node are gone through; no memory.
+/// O(1), no memory.
 pub(crate) fn is_live(graph: &Graph, front: &Front<'_>, created: u32, n: NodeId) -> bool
     requires can { CanMakeAll front.now graph.now.graph }
     requires created { created ≡ length (after front.now graph.now.graph).allocated }

@@ -217,10 +217,10 @@ fn judge_relabel(
 /// `Limit`.
 ///
 /// One step is expected O(b) for a label of b bytes, O(min(c, p)) for an edge that leads from a node with c children to
-/// one with p parents, and O(1) for a node to be dropped. Of more steps each looks through those before it too that name
-/// its nodes. Only where so many steps could reach the limit of labels, it compares a label with
-/// those of all steps before it; and where they could reach that of edges, the edges at a node to be dropped are counted:
-/// see `edges_at`. No memory.
+/// one with p parents, and O(1) for a node to be dropped. Of more steps, one that names an edge also goes through those
+/// before it that name an end, for the end that fewer of them name, and one that gives a label through those that name its
+/// node. Only where so many steps could reach the limit of labels, it compares a label with those of all steps before it;
+/// and where they could reach that of edges, the edges at a node to be dropped are counted: see `edges_at`. No memory.
 pub fn judge(graph: &Graph, change: &Change, limits: &Limits) -> Result<Verdict, Refusal>
     ensures judges { Judges change.now graph.now.graph limits.now result }
     ensures new { result ≡ Ok Verdict.New → IsNew change.now graph.now.graph }

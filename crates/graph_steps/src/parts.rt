@@ -6,7 +6,6 @@ ghost use Rattle.graph_steps.specs.NamedSteps.{IsNextNamed};
 ghost use Rattle.graph_steps.specs.NodePlaces.{node_places};
 
 use crate::changes::{Change, Step};
-use crate::degrees::takes_away;
 use px_base::NodeId;
 use std::marker::Model;
 
@@ -84,19 +83,11 @@ impl<'a> Front<'a> {
         self.change.next_naming(from, n).min(self.past)
     }
 
-    /// Whether one of them takes the node away. Expected O(1), and those that name it are gone through; no memory.
+    /// Whether one of them takes the node away. Expected O(1), no memory.
     pub fn is_dropped(&self, n: NodeId) -> bool
         ensures { result ≡ is_dropped self.now n }
     {
-        let len = self.len();
-        let mut i = self.next_naming(0, n);
-        while i < len {
-            if takes_away(self.step(i), n) {
-                return true;
-            }
-            i = self.next_naming(i + 1, n);
-        }
-        false
+        self.change.drops_before(self.past, n)
     }
 
     /// The place of the step that adds a node once so many others are added. O(1), no memory.

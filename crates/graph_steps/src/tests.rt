@@ -177,6 +177,7 @@ fn steps_and_names(rt: HostRuntime) -> Result<(), Fail> {
     assert!(rt; change.may_name(3) && !is_dropped(change.steps(), 3));
     let whole = change.whole();
     assert!(rt; whole.is_dropped(2) && !whole.is_dropped(0));
+    assert!(rt; change.drops_before(1, 2) && !change.drops_before(0, 2));
     Ok(())
 }
 
