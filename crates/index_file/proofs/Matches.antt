@@ -1,14 +1,6 @@
--- What is said of an option by both of its cases, and of a result by one.
-use Rattle.std.proofs.Common.{Option, Some, None, ◌≡◌, ap}
-use Rattle.std.specs.Prelude.{MatchOption, IfSome, IfNone, Result, Ok, Err, OnOk, IfErr, IsErrOf}
-
-pub match_some : {X : Type 0} (r : Option X) (P : Type 0) (Q : X → Type 0) → MatchOption r P Q → IfSome r Q
-match_some None P Q h = tt
-match_some (Some x) P Q h = h
-
-pub match_none : {X : Type 0} (r : Option X) (P : Type 0) (Q : X → Type 0) → MatchOption r P Q → IfNone r P
-match_none None P Q h = h
-match_none (Some x) P Q h = tt
+-- What is said of a result by one of its cases.
+use Rattle.std.proofs.Common.{◌≡◌, ap}
+use Rattle.std.specs.Prelude.{Result, Ok, Err, OnOk, IfErr, IsErrOf}
 
 pub on_ok_then : {X E : Type 0} (r : Result X E) (P Q : Type 0) → (P → Q) → OnOk r P → OnOk r Q
 on_ok_then (Ok x) P Q f h = f h

@@ -1,9 +1,18 @@
 -- Numbers that are read from text: those past 10^18, which is past every count and limit, are read as 10^18.
-use Rattle.std.specs.Prelude.{ℕ, ◌≡◌, if◌then◌else◌, nat_le}
+use Rattle.std.specs.Prelude.{ℕ, ◌≡◌, List, if◌then◌else◌, nat_le, take, drop}
+use Rattle.std.specs.List.{prefix_len}
+use Rattle.std.specs.Char.{is_ascii_digit}
 
 -- the number, or 10^18 where it is past that
 abbrev pub saturated : ℕ → ℕ
 saturated n = if nat_le n 1000000000000000000 then n else 1000000000000000000
+
+-- the digits in front of a text, and what stands behind them
+abbrev pub front : List ℕ → List ℕ
+front text = take (prefix_len is_ascii_digit text) text
+
+abbrev pub back : List ℕ → List ℕ
+back text = drop (prefix_len is_ascii_digit text) text
 
 -- r is read of the one number of which P holds
 pub record IsFound (P : ℕ → Type 0) (r : ℕ) : Type 0 where

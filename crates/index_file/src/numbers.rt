@@ -1,22 +1,16 @@
 // Numbers in decimal.
-ghost use Rattle.std.specs.Prelude.{◌≡◌, ◌∷◌, ◌≤◌, ◌+◌, ◌*◌, ◌-◌, ℕ, List, IfSome, IfNone, IsTrue, length, slice_index_or};
+ghost use Rattle.std.specs.Prelude.{◌≡◌, ◌∷◌, ◌≤◌, ◌+◌, ◌*◌, ◌-◌, ℕ, List, IfSome, IfNone, IsTrue, slice_index_or};
 ghost use Rattle.std.specs.List.{list_all, prefix_len};
 ghost use Rattle.std.specs.Char.{is_ascii_digit};
 ghost use Rattle.std.specs.Str.Parse.{digits_value};
 ghost use Rattle.index_file.specs.Statements as spelled;
 ghost use Rattle.index_file.specs.Statements.{IsNumber, AreNumbers, HasPrefix};
-ghost use Rattle.index_file.specs.FoundNumbers.{IsFound, AreFound, saturated};
+ghost use Rattle.index_file.specs.FoundNumbers.{IsFound, AreFound, saturated, front, back};
 
 use crate::words::behind;
 
 /// Numbers past this are read as this.
 const MOST: u64 = 1_000_000_000_000_000_000;
-
-fn are_digits(digits: &[u8]) -> bool
-    ensures { result ≡ list_all is_ascii_digit digits.now }
-{
-    digits.iter().all(|d| d.is_ascii_digit())
-}
 
 // The first byte, or the other one where there is none.
 fn first_or(bytes: &[u8], other: u8) -> u8
@@ -25,11 +19,12 @@ fn first_or(bytes: &[u8], other: u8) -> u8
     if bytes.is_empty() { other } else { bytes[0] }
 }
 
-// Digits without a leading zero.
-fn is_decimal(digits: &[u8]) -> bool
+// Whether digits begin with no needless zero, and there are some.
+fn is_plain(digits: &[u8]) -> bool
+    requires { IsTrue (list_all is_ascii_digit digits.now) }
     ensures { result ≡ spelled.is_decimal digits.now }
 {
-    are_digits(digits) && (digits.len() == 1 || first_or(digits, b'0') != b'0')
+    digits.len() == 1 || first_or(digits, b'0') != b'0'
 }
 
 // The value with one more digit behind it, and 10^18 where it is past that.
@@ -42,16 +37,34 @@ fn with_digit(value: u64, digit: u8) -> u64
     if wide <= MOST { wide } else { MOST }
 }
 
-// The value of the digits, and 10^18 where it is past that.
-fn value_of(digits: &[u8]) -> u64
-    requires { IsTrue (list_all is_ascii_digit digits.now) }
-    ensures { result ≡ saturated (digits_value 10 digits.now) }
+// How many digits stand in front, and their value, which is 10^18 where it is past that.
+fn leading_digits(text: &[u8]) -> (usize, u64)
+    ensures count { result.0 ≡ prefix_len is_ascii_digit text.now }
+    ensures value { result.1 ≡ saturated (digits_value 10 (front text.now)) }
 {
     let mut value: u64 = 0;
-    for d in digits {
+    for (i, d) in text.iter().enumerate() {
+        if !d.is_ascii_digit() {
+            return (i, value);
+        }
         value = with_digit(value, *d);
     }
-    value
+    (text.len(), value)
+}
+
+// The number that the digits in front write, as `number` gives it, and what stands behind them. None exactly where they
+// write none. O(d) for d digits, no memory.
+fn leading_number(text: &[u8]) -> Option<(u64, &[u8])>
+    ensures found { IfSome result (λ p. IsFound (IsNumber (front text.now)) p.0 × (p.1.now ≡ back text.now)) }
+    ensures none { IfNone result ((n : ℕ) → IsNumber (front text.now) n → ⊥) }
+{
+    let (count, value) = leading_digits(text);
+    let (digits, rest) = text.split_at(count);
+    if is_plain(digits) {
+        Some((value, rest))
+    } else {
+        None
+    }
 }
 
 /// The number that is written so, without leading zeros, and 10^18 where it is past that. None exactly where
@@ -60,19 +73,8 @@ pub(crate) fn number(digits: &[u8]) -> Option<u64>
     ensures found { IfSome result (IsFound (IsNumber digits.now)) }
     ensures none { IfNone result ((n : ℕ) → IsNumber digits.now n → ⊥) }
 {
-    if is_decimal(digits) {
-        Some(value_of(digits))
-    } else {
-        None
-    }
-}
-
-// How many digits stand in front.
-fn digits_len(text: &[u8]) -> usize
-    ensures count { result ≡ prefix_len is_ascii_digit text.now }
-    ensures within { result ≤ length text.now }
-{
-    text.iter().take_while(|d| d.is_ascii_digit()).count()
+    let (n, rest) = leading_number(digits)?;
+    if rest.is_empty() { Some(n) } else { None }
 }
 
 /// Two numbers with this word between them, which begins with a space. O(d) for d bytes, no memory.
@@ -81,9 +83,8 @@ pub(crate) fn two_numbers(text: &[u8], word: &[u8]) -> Option<(u64, u64)>
     ensures found { IfSome result (AreFound (AreNumbers word.now text.now)) }
     ensures none { IfNone result ((n m : ℕ) → AreNumbers word.now text.now n m → ⊥) }
 {
-    let (first, rest) = text.split_at(digits_len(text));
+    let (n, rest) = leading_number(text)?;
     let second = behind(rest, word)?;
-    let n = number(first)?;
     let m = number(second)?;
     Some((n, m))
 }

@@ -6,6 +6,7 @@ ghost use Rattle.path_query.specs.Labels.{SpellsLabel};
 ghost use Rattle.index_file.specs.ReadLabels.{IsNumbered, IsOneTooMany};
 
 use crate::due::Stop;
+use crate::words::is_word;
 use indexmap::IndexSet;
 use path_query::read_label;
 use px_base::{Memory, Recent, Text};
@@ -41,7 +42,7 @@ fn last_bytes(word: &[u8]) -> (u32, u32) {
 fn is_text(text: &Text, word: &[u8]) -> bool
     ensures { IsTrue result → text.now ≡ word.now }
 {
-    text.as_bytes() == word
+    is_word(text.as_bytes(), word)
 }
 
 impl ReadLabels {
