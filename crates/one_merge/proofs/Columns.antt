@@ -10,10 +10,10 @@ use Rattle.one_merge.specs.Merged.{with_column}
 abbrev pub flipped : (ℕ → ℕ → ℕ) → ℕ → ℕ → ℕ
 flipped s x y = s y x
 
-same : (n : ℕ) → nat_eq n n ≡ true
+pub same : (n : ℕ) → nat_eq n n ≡ true
 same n = (Decides-eqb n n).1 refl
 
-other : (m n : ℕ) → m ≢ n → nat_eq m n ≡ false
+pub other : (m n : ℕ) → m ≢ n → nat_eq m n ≡ false
 other m n ne = elim (eqb_tells m n) [ inl t ↦ absurd (ne t.1) | inr f ↦ f.0 ]
 
 pub column_gone : (a b : ℕ) (s : ℕ → ℕ → ℕ) (x : ℕ) → with_column a b s x b ≡ 0

@@ -1,5 +1,6 @@
 mod Columns
 mod MergedSupports
+mod MergedLoops
 mod MergeTestLaws
 mod MergePairLaws
 mod Counted

@@ -23,7 +23,7 @@ use Rattle.one_merge.specs.MergeTests.{renamed, AreMergeable}
 use Rattle.one_merge.specs.Merged.{with_column, with_row, merged_support, HasGraph}
 use Rattle.one_merge.proofs.Columns.{flipped, Which, goes, stays, else_, which, column_gone, column_here, column_there}
 
-row_gone : (a b : ℕ) (s : ℕ → ℕ → ℕ) (y : ℕ) → with_row a b s b y ≡ 0
+pub row_gone : (a b : ℕ) (s : ℕ → ℕ → ℕ) (y : ℕ) → with_row a b s b y ≡ 0
 row_gone a b s y = column_gone a b (flipped s) y
 
 pub row_here : (a b : ℕ) (s : ℕ → ℕ → ℕ) (y : ℕ) → a ≢ b → with_row a b s a y ≡ s a y + s b y
@@ -32,7 +32,7 @@ row_here a b s y ne = column_here a b (flipped s) y ne
 pub row_there : (a b : ℕ) (s : ℕ → ℕ → ℕ) (x y : ℕ) → x ≢ a → x ≢ b → with_row a b s x y ≡ s x y
 row_there a b s x y na nb = column_there a b (flipped s) y x na nb
 
-abbrev merged_is : (a b : ℕ) (p : List (Option ℕ)) → IsMerged a b p (merged a b p)
+abbrev pub merged_is : (a b : ℕ) (p : List (Option ℕ)) → IsMerged a b p (merged a b p)
 merged_is a b p = record { blocks = at_merged a b p }
 
 -- supports that become one are few together
@@ -107,19 +107,6 @@ child_live p labels s x y h more =
     let some : 0 < edges_between h.graph.edges p x y = omega (arith, more, e) in
     let j = support_adjacent h.graph p x y some in
     h.live j.1 y j.4
-
-pub mid_live : (p : List (Option ℕ)) (labels : ℕ → Option ℕ) (s mid : ℕ → ℕ → ℕ) (a b y : ℕ) → HasGraph p labels s → IsSome (labels a) → a ≢ b
-    → ((x z : ℕ) → mid x z ≡ with_column a b s x z) → 0 < mid b y → IsSome (labels y)
-mid_live p labels s mid a b y h live ne is more = by (which a b y)
-  where
-    by : Which a b y → IsSome (labels y)
-    by (goes e) = absurd (let u = is b y in let z = ap (with_column a b s b) e ∙ column_gone a b s b in omega (arith, more, u, z))
-    by (stays e) = ap (λ n. is_some (labels n)) e ∙ live
-    by (else_ na nb) = (
-        let u = is b y in
-        let z = column_there a b s b y na nb in
-        let some : 0 < s b y = omega (arith, more, u, z) in
-        child_live p labels s b y h some)
 
 -- the two steps together
 pub two_steps : (a b : ℕ) (s mid new : ℕ → ℕ → ℕ) → ((x y : ℕ) → mid x y ≡ with_column a b s x y) → ((x y : ℕ) → new x y ≡ with_row a b mid x y) → (x y : ℕ) → new x y ≡ merged_support a b s x y

@@ -6,6 +6,7 @@ use Rattle.graph_spec.specs.Graphs.{Graph}
 use Rattle.bisim_spec.specs.declared.sides.Side.{Side}
 use Rattle.bisim_spec.specs.SideEdges.{edge_with}
 use Rattle.one_spec.specs.EdgeCounts.{AreEdgeCounts}
+use Rattle.quotient_draft.specs.Drafts.{is_pair}
 
 -- the support between m, as a neighbour on this side, and c
 abbrev pub support_by : Side → (ℕ → ℕ → ℕ) → ℕ → ℕ → ℕ
@@ -18,6 +19,10 @@ with_column a b support x y = if nat_eq y b then 0 else (if nat_eq y a then supp
 -- the supports once those from b are added to those from a
 abbrev pub with_row : ℕ → ℕ → (ℕ → ℕ → ℕ) → ℕ → ℕ → ℕ
 with_row a b support x y = if nat_eq x b then 0 else (if nat_eq x a then support a y + support b y else support x y)
+
+-- the supports once that from b to itself is added to that from a to itself
+abbrev pub with_loop : ℕ → ℕ → (ℕ → ℕ → ℕ) → ℕ → ℕ → ℕ
+with_loop a b support x y = if is_pair (x, y) (b, b) then 0 else (if is_pair (x, y) (a, a) then support a a + support b b else support x y)
 
 -- for each neighbour on this side that passes, the support of b goes over to a: it is added there, and none is left at
 -- b; all other supports stay

@@ -1,13 +1,14 @@
 -- Merging two blocks as a draft shows them.
-use Rattle.std.specs.Prelude.{◌≡◌, ℕ, List, Option, Some, if◌then◌else◌}
+use Rattle.std.specs.Prelude.{◌≡◌, ℕ, List, Option, Some, false, if◌then◌else◌}
 use Rattle.graph_spec.specs.Members.{at, has}
 use Rattle.graph_spec.specs.Graphs.{Graph}
 use Rattle.graph_spec.specs.Shapes.{Shape}
+use Rattle.bisim_spec.specs.IndexGraphs.{SupportTable, support_at}
 use Rattle.one_spec.specs.BlockLabels.{BlocksHaveLabels}
 use Rattle.one_spec.specs.EdgeCounts.{AreEdgeCounts}
 use Rattle.one_spec.specs.Viewed.{IsViewed}
 use Rattle.quotient.specs.Quotients.{Quotient}
-use Rattle.quotient_draft.specs.Drafts.{Drafted, shown_labels, shown_blocks, shown_support}
+use Rattle.quotient_draft.specs.Drafts.{Drafted, shown_labels, shown_blocks, shown_support, with_supports}
 use Rattle.one_merge.specs.MergeTests.{shown_adjacent, AreMergeable, AreNotMergeable}
 use Rattle.one_merge.specs.Merged.{HasGraph}
 
@@ -39,6 +40,10 @@ LabelsStayRight q d d2 = (node_labels : ℕ → Option ℕ) → BlocksHaveLabels
 -- whatever the graph: where a stable partition of it was shown, with the right tables, one is still
 abbrev pub KeepsStablePartition : Quotient → Drafted → Drafted → Type 0
 KeepsStablePartition q d d2 = (s : Shape) → ShowsStablePartition s q d → ShowsStablePartition s q d2
+
+-- whatever the base: from all blocks but these the support to b is that of the base
+abbrev pub AreDraftedParents : Drafted → ℕ → List ℕ → Type 0
+AreDraftedParents d b list = (t : SupportTable) (a : ℕ) → has list a ≡ false → support_at (with_supports t d.supports) a b ≡ support_at t a b
 
 -- these nodes go into this block, and all others stay
 abbrev pub PutsNodes : List ℕ → ℕ → List (Option ℕ) → List (Option ℕ) → Type 0

@@ -5,7 +5,7 @@ ghost use Rattle.graph_spec.specs.Members.{at, has};
 ghost use Rattle.quotient_draft.specs.Drafts.{shown_labels, shown_blocks, shown_support};
 ghost use Rattle.quotient_draft.specs.Basis.{IsOver};
 ghost use Rattle.one_merge.specs.MergeTests.{shown_adjacent};
-ghost use Rattle.one_merge.specs.ShownMerges.{ShowsSupportsOfGraph, AreShownMergeable, AreShownNotMergeable, HasNoOther, ListsOwnChildren};
+ghost use Rattle.one_merge.specs.ShownMerges.{ShowsSupportsOfGraph, AreShownMergeable, AreShownNotMergeable, AreDraftedParents, HasNoOther, ListsOwnChildren};
 ghost use Rattle.one_merge.specs.ParentlessBlocks.{IsNoted, CoversShown};
 
 use crate::kept_blocks::KeptBlocks;
@@ -55,12 +55,13 @@ fn is_long(own: &[u32], drafted: &[u32]) -> bool {
     own.len().max(drafted.len()) > FEW_PARENTS
 }
 
-// Whether some parent of b isn't a parent of a, where b has the parents that it has in the base. Where a has few parents, only
-// lists are read, so it is the cheapest test of the parents.
-fn has_unshared_parent(base: &Summary, draft: &Draft, a: u32, b: u32) -> bool
+// Whether some parent of b isn't a parent of a, where no parent of b is drafted. Where a has few parents, only lists are read,
+// so it is the cheapest test of the parents.
+fn has_unshared_parent(base: &Summary, draft: &Draft, a: u32, b: u32, onto: &[u32]) -> bool
+    requires drafted { AreDraftedParents draft.now b onto.now }
     ensures { IsTrue result → AreShownNotMergeable base.now draft.now a b }
 {
-    if !draft.drafted_parents(b).is_empty() {
+    if !onto.is_empty() {
         return false;
     }
     let parents = base_parents(base, b);
@@ -88,13 +89,14 @@ fn is_mergeable(base: &Summary, draft: &Draft, a: u32, label: u32, b: u32) -> bo
     if !is_labelled(base, draft, b, label) {
         return false;
     }
-    if has_unshared_parent(base, draft, a, b) {
+    let onto = draft.drafted_parents(b);
+    if has_unshared_parent(base, draft, a, b, onto) {
         return false;
     }
     if !has_members(base, draft, b) {
         return false;
     }
-    can_merge(base, draft, a, b)
+    can_merge(base, draft, a, b, onto)
 }
 
 // Whether x is other than a and has support to it as shown.

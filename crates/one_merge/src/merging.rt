@@ -117,12 +117,12 @@ fn merge_pairs(
 /// numbers of no block, and blocks without members. The supports must be those of a graph with at most 2^30 edges, and
 /// blocks with members have labels. Where memory runs out, the draft may hold a part of this.
 ///
-/// Of two blocks that are merged the one with fewer members and children is moved, and each block next to it is written
-/// once. A candidate is compared with another parent of it and that parent's children: a parent with few children is
-/// taken, or else the one with the fewest. Where it has no other parent than itself, it is compared with the blocks
-/// noted for its label, and with its children where it is a parent of itself. Where these are many, the block into which
-/// one with the same label was merged last comes first. So like blocks of one parent are merged in about one comparison
-/// each, and looked through once more at the end.
+/// Of two blocks that are merged the one with fewer members and children is moved, or the one with far more drafted pairs
+/// onto it, most of which have no support; each block next to it is written once. A candidate is compared with another
+/// parent of it and that parent's children: a parent with few children is taken, or else the one with the fewest. Where it
+/// has no other parent than itself, it is compared with the blocks noted for its label, and with its children where it is a
+/// parent of itself. Where these are many, the block into which one with the same label was merged last comes first. So
+/// like blocks of one parent are merged in about one comparison each, and looked through once more at the end.
 ///
 /// Expected O(u k p) for u blocks that are examined, which are the merge candidates, and after each merge the
 /// merged block and the children of the smaller one, each with at most p parents and compared with at most k blocks;

@@ -3,7 +3,7 @@ ghost use Rattle.std.specs.Prelude.{◌≡◌, ◌≢◌, ◌+◌, ◌<◌, ◌�
 ghost use Rattle.graph_spec.specs.Members.{at, has, Lists};
 ghost use Rattle.quotient_draft.specs.Drafts.{shown_labels, shown_blocks, shown_support};
 ghost use Rattle.quotient_draft.specs.Basis.{IsOver};
-ghost use Rattle.one_merge.specs.Merged.{support_by, merged_support, HasGraph, AddsSupports, AddsAllSupports};
+ghost use Rattle.one_merge.specs.Merged.{support_by, with_loop, merged_support, HasGraph, AddsSupports, AddsAllSupports};
 
 use bisim_spec::Side;
 use px_base::Memory;
@@ -104,6 +104,28 @@ fn merge_side(
     Ok(())
 }
 
+// The support of b to itself goes over to a: left to the two sides, it would leave the pair of b and a without support.
+fn move_loop(base: &Summary, draft: &mut Draft, a: u32, b: u32) -> Result<(), Memory>
+    requires over { IsOver base.now.blocks.block_of base.now.blocks.labels draft.old }
+    requires apart { a ≢ b }
+    requires stays { IsSome (at (shown_labels base.now draft.old) a) }
+    requires goes { IsSome (at (shown_labels base.now draft.old) b) }
+    requires few { shown_support base.now draft.old a a + shown_support base.now draft.old b b ≤ 2 ^ 30 }
+    ensures supports { OnOk result ((x y : ℕ) → shown_support base.now draft.new x y ≡ with_loop a b (shown_support base.now draft.old) x y) }
+    ensures added { OnOk result (draft.new.added ≡ draft.old.added) }
+    ensures moves { OnOk result (draft.new.moves ≡ draft.old.moves) }
+    ensures over { OnOk result (IsOver base.now.blocks.block_of base.now.blocks.labels draft.new) }
+{
+    let gone = draft.support(base, b, b);
+    if gone == 0 {
+        return Ok(());
+    }
+    let n = draft.support(base, a, a) + gone;
+    draft.set_support(base, a, a, n)?;
+    draft.set_support(base, b, b, 0)?;
+    Ok(())
+}
+
 /// Drafts the supports that the index graph has once block `b` is part of block `a`. Each parent and each
 /// child of `b` is written once.
 pub(crate) fn merge_supports(
@@ -123,6 +145,7 @@ pub(crate) fn merge_supports(
     ensures moves { OnOk result (draft.new.moves ≡ draft.old.moves) }
     ensures over { OnOk result (IsOver base.now.blocks.block_of base.now.blocks.labels draft.new) }
 {
+    move_loop(base, draft, a, b)?;
     merge_side(base, draft, Side::Parents, a, b, list)?;
     merge_side(base, draft, Side::Children, a, b, list)?;
     Ok(())

@@ -11,10 +11,10 @@ returns-then-is_any_unsatisfied-clause-yes c = λ _.
 
 pub returns-clause-yes : goal.returns-clause-yes
 returns-clause-yes c = λ h.
-    unsatisfied_get (shown_adjacent c.args.base.now c.args.draft.now) c.args.a c.args.b c.drafted_parents.result.now (sym c.is_any_unsatisfied-2.ensures ∙ h)
+    unsatisfied_get (shown_adjacent c.args.base.now c.args.draft.now) c.args.a c.args.b c.args.drafted.now (sym c.is_any_unsatisfied-2.ensures ∙ h)
 
 pub returns-clause-no : goal.returns-clause-no
 returns-clause-no c = λ h.
     let q = c.args.base.now in
-    all_satisfied (shown_support q c.args.draft.now) (support_at q.supports) c.args.a c.args.b c.base_parents.result.now c.drafted_parents.result.now c.base_parents.ensures
-    (λ x off. c.drafted_parents.ensures q.supports x off) (sym c.is_any_unsatisfied.ensures ∙ search rules) (sym c.is_any_unsatisfied-2.ensures ∙ h)
+    all_satisfied (shown_support q c.args.draft.now) (support_at q.supports) c.args.a c.args.b c.base_parents.result.now c.args.drafted.now c.base_parents.ensures
+    (λ x off. c.requires.drafted q.supports x off) (sym c.is_any_unsatisfied.ensures ∙ search rules) (sym c.is_any_unsatisfied-2.ensures ∙ h)
