@@ -80,6 +80,14 @@ def measure_like(program, folder, graph, first):
         measure(program, folder, graph, scripts, TURNS, f"{TRIPLES:,} triples, {what}")
 
 
+def hub_edges(program, folder, graph, lines):
+    """How many edges the hub has of its own after these lines: those that go when it is dropped; and how many the graph has then."""
+    path = write(folder, "hub_edges", "".join(line + "\n" for line in [*lines, "sizes", f"drop n{HUB}", "sizes"]))
+    done = subprocess.run([program, path, "--graph", graph, *LEAST], capture_output=True, text=True, check=True)
+    before, after = (int(line.split()[3]) for line in done.stdout.splitlines() if line.startswith("nodes "))
+    return before - after, before
+
+
 def measure_hub(program, folder, edges):
     """A graph whose one object has the nodes of all triples as its parents, and nodes that are linked to it."""
     graph = write(folder, "hub.nt", "".join(hub_graph(edges)))
@@ -92,7 +100,10 @@ def measure_hub(program, folder, edges):
         "and all links in a group": nodes + grouped(links),
         "and the drop of the hub": nodes + [f"drop n{HUB}"],
     }
-    measure(program, folder, graph, scripts, HUB_TURNS, f"a hub of {edges:,} parents, and {STEPS:,} more")
+    own, all_edges = hub_edges(program, folder, graph, nodes)
+    linked, _ = hub_edges(program, folder, graph, nodes + grouped(links))
+    what = f"a hub with {own:,} of {all_edges:,} edges, {linked:,} after all links"
+    measure(program, folder, graph, scripts, HUB_TURNS, what)
 
 
 def main():
