@@ -10,93 +10,86 @@ use Rattle.key_table.specs.NumberedKeys.{AreDistinct, Interns}
 use Rattle.graph_spec.specs.Members.{at, has, Lists}
 use Rattle.graph_spec.proofs.MemberLaws.{has_push}
 use Rattle.bisim_spec.specs.declared.sides.Side.TheVariants.{Parents, Children}
-use Rattle.index_check.specs.Keys.{IsKey, IsWritten}
+use Rattle.index_check.specs.Keys.{IsWritten}
 use Rattle.index_check.specs.NeighbourSides.{is_neighbour}
-use Rattle.index_check.specs.Active.{number_in, AreAlike, IsGroup, TakesGroup, AreGrouped, renamed, renamed_at, AreMoved, AreRenamed}
+use Rattle.index_check.specs.Active.{number_in, between, AreAlike, IsGroup, TakesGroup, AreGrouped, renamed, renamed_at, AreMoved, AreRenamed}
 use Rattle.index_check.proofs.NumberedNodes.{interned_at, interned_stays}
 use Rattle.index_check.proofs.WrittenKeys.{key_of, key_from_together}
 
 -- nodes that are alike have one group
-pub same_group : (edge : ℕ → ℕ → Bool) (block : List (Option ℕ)) (first second : List (List ℕ)) (u v k l : ℕ) → AreDistinct first → AreDistinct second → AreAlike edge block u v
-    → IsGroup edge block first second u k → IsGroup edge block first second v l → k ≡ l
-same_group edge block first second u v k l d e alike a b =
+pub same_group : (edge : ℕ → ℕ → Bool) (block : List (Option ℕ)) (table : List (List ℕ)) (u v k l : ℕ) → AreDistinct table → AreAlike edge block u v → IsGroup edge block table u k
+    → IsGroup edge block table v l → k ≡ l
+same_group edge block table u v k l d alike a b =
     let one : a.by_parents ≡ b.by_parents = key_from_together (at block) block (is_neighbour Parents edge) u v a.by_parents b.by_parents alike.parents a.is_first b.is_first in
-    let middle : a.middle ≡ b.middle = d.apart a.middle b.middle b.by_parents (a.first_at ∙ ap Some one) b.first_at in
-    let is_second = subst (λ m. IsKey (λ _. Some m) block (is_neighbour Children edge) v b.by_both) (sym middle) b.is_second in
-    let two : a.by_both ≡ b.by_both =
-    key_from_together (λ _. Some a.middle) block (is_neighbour Children edge) u v a.by_both b.by_both (record { one_number = (a.middle, refl, refl); neighbours = alike.children }) a.is_second is_second
+    let two : a.by_children ≡ b.by_children =
+    key_from_together (λ _. Some between) block (is_neighbour Children edge) u v a.by_children b.by_children (record { one_number = (between, refl, refl); neighbours = alike.children }) a.is_second
+    b.is_second
     in
-    e.apart k l b.by_both (a.second_at ∙ ap Some two) b.second_at
+    let same : a.by_parents ++ a.by_children ≡ b.by_parents ++ b.by_children = ap (λ x. x ++ a.by_children) one ∙ ap (λ y. b.by_parents ++ y) two in
+    d.apart k l (b.by_parents ++ b.by_children) (a.key_at ∙ ap Some same) b.key_at
 
 -- a number without a block takes no key
-pub takes_none : (edge : ℕ → ℕ → Bool) (block : List (Option ℕ)) (first second : List (List ℕ)) (n k : ℕ) → at block n ≡ None → TakesGroup edge block first first second second n k
-takes_none edge block first second n k none = record {
-  first_stay = λ j key e. e;
-  second_stay = λ j key e. e;
+pub takes_none : (edge : ℕ → ℕ → Bool) (block : List (Option ℕ)) (table : List (List ℕ)) (n k : ℕ) → at block n ≡ None → TakesGroup edge block table table n k
+takes_none edge block table n k none = record {
+  stay = λ j key e. e;
   group = λ b e. absurd (let z = none in cc);
 }
 
-pub takes_some : (edge : ℕ → ℕ → Bool) (block : List (Option ℕ)) (first first2 second second2 : List (List ℕ)) (n b middle k : ℕ) (parents children x y : List ℕ) → at block n ≡ Some b
-    → Lists (λ p. is_neighbour Parents edge p n) parents → Lists (λ p. is_neighbour Children edge p n) children → IsWritten (at block) parents b x → Interns first first2 x middle
-    → IsWritten (at block) children middle y → Interns second second2 y k → TakesGroup edge block first first2 second second2 n k
-takes_some edge block first first2 second second2 n b middle k parents children x y e above below wx ix wy iy = record {
-  first_stay = interned_stays first first2 x middle ix;
-  second_stay = interned_stays second second2 y k iy;
+pub takes_some : (edge : ℕ → ℕ → Bool) (block : List (Option ℕ)) (old new : List (List ℕ)) (n b k : ℕ) (parents children x y key : List ℕ) → at block n ≡ Some b
+    → Lists (λ p. is_neighbour Parents edge p n) parents → Lists (λ p. is_neighbour Children edge p n) children → IsWritten (at block) parents b x → IsWritten (at block) children between y
+    → key ≡ x ++ y → Interns old new key k → TakesGroup edge block old new n k
+takes_some edge block old new n b k parents children x y key e above below wx wy whole i = record {
+  stay = interned_stays old new key k i;
   group = λ c f. record {
-    middle = middle;
     by_parents = x;
-    by_both = y;
-    first_at = interned_at first first2 x middle ix;
+    by_children = y;
+    key_at = interned_at old new key k i ∙ ap Some whole;
     is_first = key_of (at block) block (is_neighbour Parents edge) n b parents x above e wx;
-    second_at = interned_at second second2 y k iy;
-    is_second = key_of (λ _. Some middle) block (is_neighbour Children edge) n middle children y below refl wy;
+    is_second = key_of (λ _. Some between) block (is_neighbour Children edge) n between children y below refl wy;
   };
 }
 
 -- the first i active nodes have groups
-pub record GroupedBelow (edge : ℕ → ℕ → Bool) (block : List (Option ℕ)) (active : List ℕ) (i : ℕ) (first second : List (List ℕ)) (groups : List ℕ) : Type 0 where
+pub record GroupedBelow (edge : ℕ → ℕ → Bool) (block : List (Option ℕ)) (active : List ℕ) (i : ℕ) (table : List (List ℕ)) (groups : List ℕ) : Type 0 where
   pub length_is : length groups ≡ i
-  pub each : (j b : ℕ) → j < i → at block (number_in active j) ≡ Some b → IsGroup edge block first second (number_in active j) (number_in groups j)
+  pub each : (j b : ℕ) → j < i → at block (number_in active j) ≡ Some b → IsGroup edge block table (number_in active j) (number_in groups j)
 
-pub grouped_start : (edge : ℕ → ℕ → Bool) (block : List (Option ℕ)) (active : List ℕ) (first second : List (List ℕ)) → GroupedBelow edge block active 0 first second []
-grouped_start edge block active first second = record { length_is = refl; each = λ j b h e. absurd (omega (arith, h)) }
+pub grouped_start : (edge : ℕ → ℕ → Bool) (block : List (Option ℕ)) (active : List ℕ) (table : List (List ℕ)) → GroupedBelow edge block active 0 table []
+grouped_start edge block active table = record { length_is = refl; each = λ j b h e. absurd (omega (arith, h)) }
 
-pub grouped_more : (edge : ℕ → ℕ → Bool) (block : List (Option ℕ)) (active : List ℕ) (i : ℕ) (first first2 second second2 : List (List ℕ)) (groups : List ℕ) (k : ℕ)
-    → GroupedBelow edge block active i first second groups → TakesGroup edge block first first2 second second2 (number_in active i) k
-    → GroupedBelow edge block active (i + 1) first2 second2 (groups ++ k ∷ [])
-grouped_more edge block active i first first2 second second2 groups k w t =
+pub grouped_more : (edge : ℕ → ℕ → Bool) (block : List (Option ℕ)) (active : List ℕ) (i : ℕ) (old new : List (List ℕ)) (groups : List ℕ) (k : ℕ) → GroupedBelow edge block active i old groups
+    → TakesGroup edge block old new (number_in active i) k → GroupedBelow edge block active (i + 1) new (groups ++ k ∷ [])
+grouped_more edge block active i old new groups k w t =
     let long = w.length_is in
     record {
       length_is = length-append groups (k ∷ []) ∙ ap (λ m. m + 1) long;
       each = λ j b h e. elim (cases_lt j i) [
         | inl before ↦
-            (let old = w.each j b before e in
+            (let had = w.each j b before e in
             let same : number_in (groups ++ k ∷ []) j ≡ number_in groups j = get_or_append_left groups (k ∷ []) 0 j (omega (arith, long, before)) in
-            subst (IsGroup edge block first2 second2 (number_in active j)) (sym same) (record {
-              middle = old.middle;
-              by_parents = old.by_parents;
-              by_both = old.by_both;
-              first_at = t.first_stay old.middle old.by_parents old.first_at;
-              is_first = old.is_first;
-              second_at = t.second_stay (number_in groups j) old.by_both old.second_at;
-              is_second = old.is_second;
+            subst (IsGroup edge block new (number_in active j)) (sym same) (record {
+              by_parents = had.by_parents;
+              by_children = had.by_children;
+              key_at = t.stay (number_in groups j) (had.by_parents ++ had.by_children) had.key_at;
+              is_first = had.is_first;
+              is_second = had.is_second;
             }))
         | inr past ↦
             (let here : j ≡ i = omega (arith, h, past) in
             let last : number_in (groups ++ k ∷ []) i ≡ k = get_or_push groups k 0 i long in
             let f : at block (number_in active i) ≡ Some b = ap (λ m. at block (number_in active m)) (sym here) ∙ e in
-            subst (λ m. IsGroup edge block first2 second2 (number_in active m) (number_in (groups ++ k ∷ []) m)) (sym here)
-            (subst (IsGroup edge block first2 second2 (number_in active i)) (sym last) (t.group b f)))
+            subst (λ m. IsGroup edge block new (number_in active m) (number_in (groups ++ k ∷ []) m)) (sym here)
+            (subst (IsGroup edge block new (number_in active i)) (sym last) (t.group b f)))
       ];
     }
 
-pub grouped_all : (edge : ℕ → ℕ → Bool) (block : List (Option ℕ)) (active : List ℕ) (i : ℕ) (first second : List (List ℕ)) (groups : List ℕ) → i ≡ length active → AreDistinct first
-    → AreDistinct second → GroupedBelow edge block active i first second groups → AreGrouped edge block active groups
-grouped_all edge block active i first second groups all d e w = record {
+pub grouped_all : (edge : ℕ → ℕ → Bool) (block : List (Option ℕ)) (active : List ℕ) (i : ℕ) (table : List (List ℕ)) (groups : List ℕ) → i ≡ length active → AreDistinct table
+    → GroupedBelow edge block active i table groups → AreGrouped edge block active groups
+grouped_all edge block active i table groups all d w = record {
   length_is = w.length_is ∙ all;
   alike = λ j k hj hk a.
       let one = a.parents.one_number in
-      same_group edge block first second (number_in active j) (number_in active k) (number_in groups j) (number_in groups k) d e a
+      same_group edge block table (number_in active j) (number_in active k) (number_in groups j) (number_in groups k) d a
       (w.each j one.0 (omega (arith, hj, all)) one.1) (w.each k one.0 (omega (arith, hk, all)) one.2);
 }
 

@@ -1,23 +1,22 @@
 -- A round over the active nodes keeps a partition no finer than full bisimilarity.
-use Rattle.std.proofs.Common.{◌≡◌, ◌≢◌, ℕ, ◌+◌, ◌<◌, List, [], ◌∷◌, ◌++◌, length, Option, Some, None, is_some, refl, sym, ◌∙◌, ap, subst, arith, inl, inr, true, false, Bool, true≢false}
+use Rattle.std.proofs.Common.{◌≡◌, ◌≢◌, ℕ, ◌+◌, ◌<◌, ◌≤◌, List, [], ◌∷◌, ◌++◌, length, Option, Some, None, is_some, refl, sym, ◌∙◌, ap, subst, arith, inl, inr, true, false, Bool, true≢false}
 use Rattle.std.specs.Prelude.{◌||◌, ◌&&◌, nat_eq}
 use Rattle.std.specs.List.{list_any}
 use Rattle.std.specs.List.Sorted.{IsStrictlyIncreasing}
 use Rattle.std.proofs.lemmas.Bool.{cases_lt, cases_Bool, both_ways, or_cases, or_left, or_right, and_parts, and_from}
 use Rattle.std.proofs.lemmas.Bool.Decides.{Decides-eqb}
-use Rattle.std.proofs.lemmas.List.{get_or_push, get_or_append_left, length-append}
 use Rattle.graph_spec.specs.Members.{at, has}
-use Rattle.graph_spec.proofs.MemberLaws.{has_at}
+use Rattle.graph_spec.proofs.MemberLaws.{has_at, has_push}
 use Rattle.graph_spec.specs.Shapes.{Shape, IsShape}
-use Rattle.bisim_spec.specs.Bisimilarity.{FB, node_count, SameLabel}
+use Rattle.bisim_spec.specs.Bisimilarity.{FB, Both, node_count}
 use Rattle.bisim_spec.specs.Partitions.{Together, IsPartition, Agrees}
 use Rattle.bisim_spec.specs.Stability.{StableBoth}
 use Rattle.bisim_spec.proofs.Bisimilar.{some_of, none_or_some, is_some_at, matched_map, label_node, label_sym, both_sym, both_self, both_label}
-use Rattle.bisim_spec.proofs.Settled.{fb_settled}
+use Rattle.bisim_spec.proofs.Settled.{fb_settled, fb_each}
 use Rattle.bisim_spec.proofs.Stable.{stable_both_within}
 use Rattle.bisim_spec.proofs.Together.{together_some}
 use Rattle.index_check.specs.ComparedLists.{Determines}
-use Rattle.index_check.specs.Active.{number_in, IsCoarse, IsOnTheWay, AreAlike, AreGrouped, renamed, AreMoved, AreRenamed, is_shared, is_beside, AreAround}
+use Rattle.index_check.specs.Active.{number_in, IsCoarse, IsOnTheWay, AreAlike, AreGrouped, renamed, AreMoved, AreRenamed, is_shared, is_beside, AreAround, AreShared}
 use Rattle.index_check.proofs.NeighbourBlocks.{place_of}
 
 -- tests of lists
@@ -48,34 +47,40 @@ adds_more false false n p = refl
 pub adds_step : (a x n p next mid y : Bool) → next ≡ (mid || (p && n)) → mid ≡ (a || (x && n)) → y ≡ (x || p) → next ≡ (a || (y && n))
 adds_step a x n p next mid y e f h = e ∙ ap (λ b. b || (p && n)) f ∙ adds_more a x n p ∙ ap (λ b. a || (b && n)) (sym h)
 
--- the numbers from 0 on
-pub record AreAllBelow (n : ℕ) (numbers : List ℕ) : Type 0 where
-  pub length_is : length numbers ≡ n
-  pub each : (m : ℕ) → m < n → number_in numbers m ≡ m
+-- nodes whose blocks are shared
 
-pub all_start : AreAllBelow 0 []
-all_start = record { length_is = refl; each = λ m h. absurd (omega (arith, h)) }
+pub shared_start : (block : List (Option ℕ)) (members : List ℕ) → AreShared block members 0 []
+shared_start block members = record { only = λ m h. absurd (true≢false (sym h)); every = λ m h e. absurd (omega (arith, h)) }
 
-pub all_more : (n : ℕ) (numbers : List ℕ) → AreAllBelow n numbers → AreAllBelow (n + 1) (numbers ++ n ∷ [])
-all_more n numbers w =
-    let long = w.length_is in
-    record {
-      length_is = length-append numbers (n ∷ []) ∙ ap (λ k. k + 1) long;
-      each = λ m h. elim (cases_lt m n) [
-        | inl before ↦ get_or_append_left numbers (n ∷ []) 0 m (omega (arith, long, before)) ∙ w.each m before
-        | inr past ↦ (let here : m ≡ n = omega (arith, h, past) in ap (number_in (numbers ++ n ∷ [])) here ∙ get_or_push numbers n 0 n long ∙ sym here)
-      ];
-    }
+pub shared_skip : (block : List (Option ℕ)) (members nodes : List ℕ) (n : ℕ) → is_shared members (at block n) ≡ false → AreShared block members n nodes
+    → AreShared block members (n + 1) nodes
+shared_skip block members nodes n alone w = record {
+  only = w.only;
+  every = λ m h e. elim (cases_lt m n) [
+    | inl before ↦ w.every m before e
+    | inr past ↦ (let here : n ≡ m = omega (arith, h, past) in absurd (true≢false (sym e ∙ sym (ap (λ k. is_shared members (at block k)) here) ∙ alone)))
+  ];
+}
 
-pub all_rising : (n : ℕ) (numbers : List ℕ) → AreAllBelow n numbers → IsStrictlyIncreasing numbers
-all_rising n numbers w = λ k h.
-    let long = w.length_is in
-    let a = w.each k (omega (arith, long, h)) in
-    let b = w.each (k + 1) (omega (arith, long, h)) in
-    omega (arith, a, b)
+pub shared_push : (block : List (Option ℕ)) (members nodes : List ℕ) (n : ℕ) → is_shared members (at block n) ≡ true → AreShared block members n nodes
+    → AreShared block members (n + 1) (nodes ++ n ∷ [])
+shared_push block members nodes n shared w = record {
+  only = λ m h. elim (or_cases (has nodes m) (nat_eq m n) (sym (has_push nodes n m) ∙ h)) [
+    | inl before ↦ w.only m before
+    | inr same ↦ ap (λ k. is_shared members (at block k)) ((Decides-eqb m n).0 same) ∙ shared
+  ];
+  every = λ m h e. elim (cases_lt m n) [
+    | inl before ↦ has_push nodes n m ∙ or_left (has nodes m) (nat_eq m n) (w.every m before e)
+    | inr past ↦ (let here : m ≡ n = omega (arith, h, past) in has_push nodes n m ∙ or_right (has nodes m) (nat_eq m n) ((Decides-eqb m n).1 here))
+  ];
+}
 
-pub all_has : (n : ℕ) (numbers : List ℕ) → AreAllBelow n numbers → (m : ℕ) → m < n → has numbers m ≡ true
-all_has n numbers w m h = subst (λ x. has numbers x ≡ true) (w.each m h) (has_at numbers m 0 (let long = w.length_is in omega (arith, long, h)))
+pub shared_same : (block : List (Option ℕ)) (members old new : List ℕ) (n size : ℕ) → size ≤ n → AreShared block members n old → ((m : ℕ) → has new m ≡ has old m)
+    → AreShared block members size new
+shared_same block members old new n size within w same = record {
+  only = λ m h. w.only m (sym (same m) ∙ h);
+  every = λ m h e. same m ∙ w.every m (omega (arith, h, within)) e;
+}
 
 -- bisimilar nodes are alike in a partition that is no finer
 fb_alike : (s : Shape) (block : List (Option ℕ)) → IsShape s → IsCoarse s block → (u v : ℕ) → FB s u v → AreAlike s.edge block u v
@@ -194,19 +199,23 @@ active_step s old new active groups names moved members next shape w g m c a =
       rising = a.rising;
     }
 
--- from the labels, while all nodes are active
-pub active_start : (s : Shape) (block : List (Option ℕ)) (active : List ℕ) → IsShape s → Agrees s block (SameLabel s) → IsStrictlyIncreasing active
-    → ((n : ℕ) → n < s.size → has active n ≡ true) → IsOnTheWay s block active
-active_start s block active shape a rising each = record {
-  coarse = record {
-    partition = a.partition;
-    together = λ u v r.
-        let l = both_label s (node_count s) u v r in
-        a.grouped u v (label_node s u v l) (label_node s v u (label_sym s u v l)) l;
-  };
-  closed = λ u v r h. let l = both_label s (node_count s) u v r in each v (shape.below v (label_node s v u (label_sym s u v l)));
+-- from a level on, while all nodes are active that aren't alone in their blocks
+pub active_start : (s : Shape) (block : List (Option ℕ)) (members active : List ℕ) (i size : ℕ) → IsShape s → Agrees s block (Both s i) → IsStrictlyIncreasing active → s.size ≤ size
+    → AreShared block members size active → IsOnTheWay s block active
+active_start s block members active i size shape a rising within w = record {
+  coarse = record { partition = a.partition; together = together };
+  closed = λ u v r h.
+      let l = both_label s (node_count s) u v r in
+      let below = shape.below v (label_node s v u (label_sym s u v l)) in
+      let t = together u v r in
+      w.every v (omega (arith, below, within)) (ap (is_shared members) (t.2 ∙ sym t.1) ∙ w.only u h);
   rising = rising;
 }
+  where
+    together : (u v : ℕ) → FB s u v → Together block u v
+    together u v r =
+        let l = both_label s (node_count s) u v r in
+        a.grouped u v (label_node s u v l) (label_node s v u (label_sym s u v l)) (fb_each s shape i u v r)
 
 -- stable blocks that are determined by a partition that is no finer than full bisimilarity are that
 pub found_full : (s : Shape) (block coarse : List (Option ℕ)) → StableBoth s block → IsCoarse s coarse → Determines coarse block → Agrees s block (FB s)

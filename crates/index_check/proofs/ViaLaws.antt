@@ -1,10 +1,10 @@
 -- Whether a partition is one of an index doesn't depend on how labels are named.
-use Rattle.std.proofs.Common.{◌≡◌, ℕ, zero, suc, ◌<◌, List, [], ◌∷◌, length, Option, Some, None, IsSome, Bool, refl, sym, ◌∙◌, ap, subst, arith}
-use Rattle.std.specs.Prelude.{option_map, option_and_then, slice_get, bytes_eq, position, IsTrue, ◌↔◌}
+use Rattle.std.proofs.Common.{◌≡◌, ℕ, zero, suc, ◌<◌, List, [], ◌∷◌, length, Option, Some, None, Bool, refl, sym, ◌∙◌, ap, subst, arith}
+use Rattle.std.specs.Prelude.{option_map, option_and_then, slice_get, bytes_eq, position, ◌↔◌}
 use Rattle.std.specs.List.{IsDistinct}
 use Rattle.std.proofs.lemmas.Option.{slice_get_within}
 use Rattle.graph_spec.specs.Graphs.{Graph, IsGraph, label_of}
-use Rattle.graph_spec.specs.Shapes.{Shape, shape_by, shape_of}
+use Rattle.graph_spec.specs.Shapes.{shape_by, shape_of}
 use Rattle.label_graph.specs.GraphViews.{label_number, is_linked, numbered_shape}
 use Rattle.label_graph.proofs.Positions.{position-at, text-at}
 use Rattle.bisim_spec.specs.Partitions.{IsPartition}

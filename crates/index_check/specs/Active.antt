@@ -1,5 +1,6 @@
 -- Rounds over the active nodes: those of which a neighbour went to another block.
-use Rattle.std.specs.Prelude.{ℕ, ◌≡◌, ◌≢◌, ◌<◌, ◌&&◌, ◌||◌, Bool, true, false, List, length, Option, None, Some, IsTrue, nat_lt, slice_get, slice_index_or}
+use mathlib.Core.Bool.{beq}
+use Rattle.std.specs.Prelude.{ℕ, ◌≡◌, ◌≢◌, ◌<◌, ◌&&◌, ◌||◌, ◌++◌, Bool, true, false, List, length, Option, None, Some, IsTrue, nat_lt, slice_get, slice_index_or}
 use Rattle.std.specs.List.{list_any}
 use Rattle.std.specs.List.Sorted.{IsStrictlyIncreasing}
 use Rattle.graph_spec.specs.Shapes.{Shape}
@@ -35,22 +36,23 @@ pub record AreAlike (edge : ℕ → ℕ → Bool) (block : List (Option ℕ)) (u
   pub parents : StayTogether (at block) block (is_neighbour Parents edge) u v
   pub children : Matched (λ p n. IsTrue (is_neighbour Children edge p n)) (Together block) u v
 
--- The group of a node, by two tables of keys: it has the number of the key that is made of the number of the key of its block and its
--- parents' blocks, and of its children's blocks.
-pub record IsGroup (edge : ℕ → ℕ → Bool) (block : List (Option ℕ)) (first second : List (List ℕ)) (n k : ℕ) : Type 0 where
-  pub middle : ℕ
+-- stands in a key between the blocks of parents and those of children
+abbrev pub between : ℕ
+between = 4294967295
+
+-- The group of a node, by a table of keys: it has the number of the key that is made of its block and its parents' blocks, and then of its
+-- children's blocks.
+pub record IsGroup (edge : ℕ → ℕ → Bool) (block : List (Option ℕ)) (table : List (List ℕ)) (n k : ℕ) : Type 0 where
   pub by_parents : List ℕ
-  pub by_both : List ℕ
-  pub first_at : slice_get first middle ≡ Some by_parents
+  pub by_children : List ℕ
+  pub key_at : slice_get table k ≡ Some (by_parents ++ by_children)
   pub is_first : IsKey (at block) block (is_neighbour Parents edge) n by_parents
-  pub second_at : slice_get second k ≡ Some by_both
-  pub is_second : IsKey (λ _. Some middle) block (is_neighbour Children edge) n by_both
+  pub is_second : IsKey (λ _. Some between) block (is_neighbour Children edge) n by_children
 
 -- keys that were there stay, and the node has this group
-pub record TakesGroup (edge : ℕ → ℕ → Bool) (block : List (Option ℕ)) (first first2 second second2 : List (List ℕ)) (n k : ℕ) : Type 0 where
-  pub first_stay : (j : ℕ) (key : List ℕ) → slice_get first j ≡ Some key → slice_get first2 j ≡ Some key
-  pub second_stay : (j : ℕ) (key : List ℕ) → slice_get second j ≡ Some key → slice_get second2 j ≡ Some key
-  pub group : (b : ℕ) → at block n ≡ Some b → IsGroup edge block first2 second2 n k
+pub record TakesGroup (edge : ℕ → ℕ → Bool) (block : List (Option ℕ)) (old new : List (List ℕ)) (n k : ℕ) : Type 0 where
+  pub stay : (j : ℕ) (key : List ℕ) → slice_get old j ≡ Some key → slice_get new j ≡ Some key
+  pub group : (b : ℕ) → at block n ≡ Some b → IsGroup edge block new n k
 
 -- each active node has a group, and nodes that are alike have the same
 pub record AreGrouped (edge : ℕ → ℕ → Bool) (block : List (Option ℕ)) (active groups : List ℕ) : Type 0 where
@@ -81,6 +83,20 @@ pub record AreRenamed (old new : List (Option ℕ)) (active groups names : List 
 abbrev pub is_shared : List ℕ → Option ℕ → Bool
 is_shared members None = false
 is_shared members (Some b) = nat_lt 1 (number_in members b)
+
+-- the nodes below n whose blocks are shared
+pub record AreShared (block : List (Option ℕ)) (members : List ℕ) (n : ℕ) (nodes : List ℕ) : Type 0 where
+  pub only : (m : ℕ) → has nodes m ≡ true → is_shared members (at block m) ≡ true
+  pub every : (m : ℕ) → m < n → is_shared members (at block m) ≡ true → has nodes m ≡ true
+
+-- the mark at a place, and none past the end
+abbrev pub mark_in : List Bool → ℕ → Bool
+mark_in marks i = slice_index_or marks i false
+
+-- whether the block has this mark, by a table of marks
+abbrev pub is_marked : List Bool → Bool → Option ℕ → Bool
+is_marked marks on None = false
+is_marked marks on (Some b) = beq (mark_in marks b) on
 
 -- whether an edge joins the two
 abbrev pub is_beside : (ℕ → ℕ → Bool) → ℕ → ℕ → Bool

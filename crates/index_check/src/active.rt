@@ -1,5 +1,5 @@
 // Full bisimilarity by parents and children, by rounds over the active nodes.
-ghost use Rattle.std.specs.Prelude.{◌≡◌, ◌<◌, ◌&&◌, ◌||◌, ℕ, set, true, IsSome, IfOk, OnOk, length};
+ghost use Rattle.std.specs.Prelude.{◌≡◌, ◌&&◌, ◌||◌, ℕ, set, Some, IsSome, IfOk, OnOk, length};
 ghost use Rattle.std.specs.List.Sorted.{IsStrictlyIncreasing};
 ghost use Rattle.graph_spec.specs.Members.{at, has};
 ghost use Rattle.key_table.specs.NumberedKeys.{AreDistinct};
@@ -14,37 +14,76 @@ ghost use Rattle.index_check.specs.Active.{
   AreMoved,
   AreRenamed,
   AreAround,
+  AreShared,
   renamed,
   number_in,
+  is_marked,
   is_shared,
   is_beside,
 };
 ghost use Rattle.index_check.specs.Listing.{IsListed};
 
-use crate::keys::{block_of, find_key};
-use crate::levels::label_list;
+use crate::keys::{block_of, write_blocks};
+use crate::levels::level_both;
 use crate::listing::{list_all, list_moved, with_rest};
 use crate::neighbour_lists::neighbours;
-use crate::parts::{Sizes, is_shared, name_groups, number_at};
+use crate::parts::{Sizes, is_marked, is_shared, name_groups, number_at};
 use bisim_spec::Side;
 use hash_index::HashIndex;
 use key_table::{KeyTable, sort_dedup};
 use label_graph::Digraph;
 use px_base::Memory;
 use std::alloc::Global;
+use std::mem::swap;
 
 // A node with more parents or children than this is a hub.
 const MANY: usize = 64;
 
-// The keys of one round: by the blocks of parents, and by those numbers and the blocks of children.
+// How many levels are made of all nodes at first. In most graphs few nodes part later, so that the lists of blocks stay short.
+const FIRST: u32 = 4;
+
+// Stands in a key between the blocks of parents and those of children. No block has it as its number.
+const BETWEEN: u32 = 0xFFFF_FFFF;
+
+// The keys of one round, and where the halves of one are written.
 #[derive(Drop)]
 struct Keys {
-    by_parents: KeyTable,
-    by_both: KeyTable,
-    key: Vec<u32>,
+    table: KeyTable,
+    parents: Vec<u32>,
+    children: Vec<u32>,
 }
 
-// The group of a active node.
+// The number of a node's key: its block, and the blocks of its parents and children.
+fn find_group<G: Digraph>(
+    keys: &mut Keys,
+    g: &G,
+    block: &[Option<u32>],
+    n: u32,
+    own: u32,
+) -> Result<u32, Memory>
+    requires node { IsSome (G.label_at g.now n) }
+    requires own { at block.now n ≡ Some own }
+    ensures group { IfOk result (λ k. TakesGroup (G.edge g.now) block.now keys.old.table keys.new.table n k) }
+    ensures distinct { IfOk result (λ k. AreDistinct keys.new.table) }
+{
+    write_blocks(
+        &mut keys.parents,
+        neighbours(g, Side::Parents, n),
+        own,
+        block,
+    )?;
+    write_blocks(
+        &mut keys.children,
+        neighbours(g, Side::Children, n),
+        BETWEEN,
+        block,
+    )?;
+    keys.parents.extend_from_slice(&keys.children)?;
+    let k = keys.table.intern(&keys.parents)?;
+    Ok(k)
+}
+
+// The group of an active node.
 fn group_of<G: Digraph>(
     keys: &mut Keys,
     g: &G,
@@ -52,25 +91,17 @@ fn group_of<G: Digraph>(
     n: u32,
 ) -> Result<u32, Memory>
     requires nodes { IsSome (at block.now n) → IsSome (G.label_at g.now n) }
-    requires first { AreDistinct keys.old.by_parents }
-    requires second { AreDistinct keys.old.by_both }
-    ensures group { IfOk result (λ k. TakesGroup (G.edge g.now) block.now keys.old.by_parents keys.new.by_parents keys.old.by_both keys.new.by_both n k) }
-    ensures first { IfOk result (λ k. AreDistinct keys.new.by_parents) }
-    ensures second { IfOk result (λ k. AreDistinct keys.new.by_both) }
+    requires distinct { AreDistinct keys.old.table }
+    ensures group { IfOk result (λ k. TakesGroup (G.edge g.now) block.now keys.old.table keys.new.table n k) }
+    ensures distinct { IfOk result (λ k. AreDistinct keys.new.table) }
 {
     match block_of(block, n) {
-        Some(b) => {
-            let parents = neighbours(g, Side::Parents, n);
-            let middle = find_key(&mut keys.by_parents, &mut keys.key, parents, b, block)?;
-            let children = neighbours(g, Side::Children, n);
-            let k = find_key(&mut keys.by_both, &mut keys.key, children, middle, block)?;
-            Ok(k)
-        }
+        Some(own) => find_group(keys, g, block, n, own),
         None => Ok(0),
     }
 }
 
-// The groups of the active nodes, by tables without keys.
+// The groups of the active nodes, by a table without keys.
 fn group_with<G: Digraph>(
     alloc: Global,
     keys: &mut Keys,
@@ -79,8 +110,7 @@ fn group_with<G: Digraph>(
     active: &[u32],
 ) -> Result<Vec<u32>, Memory>
     requires nodes { (n : ℕ) → IsSome (at block.now n) → IsSome (G.label_at g.now n) }
-    requires first { AreDistinct keys.old.by_parents }
-    requires second { AreDistinct keys.old.by_both }
+    requires distinct { AreDistinct keys.old.table }
     ensures { IfOk result (λ l. AreGrouped (G.edge g.now) block.now active.now l.items) }
 {
     let mut groups = Vec::with_capacity(alloc, active.len())?;
@@ -101,17 +131,16 @@ fn group<G: Digraph>(
     requires nodes { (n : ℕ) → IsSome (at block.now n) → IsSome (G.label_at g.now n) }
     ensures { IfOk result (λ l. AreGrouped (G.edge g.now) block.now active.now l.items) }
 {
-    let by_parents = KeyTable::new(alloc)?;
-    let by_both = KeyTable::new(alloc)?;
+    let table = KeyTable::new(alloc)?;
     let mut keys = Keys {
-        by_parents,
-        by_both,
-        key: Vec::new(alloc),
+        table,
+        parents: Vec::new(alloc),
+        children: Vec::new(alloc),
     };
     group_with(alloc, &mut keys, g, block, active)
 }
 
-// The block of a active node in a group, once groups have these names.
+// The block of an active node in a group, once groups have these names.
 fn new_block(block: &[Option<u32>], names: &[u32], n: u32, group: u32) -> Option<u32>
     ensures { result ≡ renamed (at block.now n) (number_in names.now group) }
 {
@@ -260,18 +289,6 @@ fn part_wider<G: Digraph>(
     part_once(alloc, g, block, sizes, lists, &wider)
 }
 
-// All numbers below the size.
-fn all_numbers(alloc: Global, size: u32) -> Result<Vec<u32>, Memory>
-    ensures rising { IfOk result (λ l. IsStrictlyIncreasing l.items) }
-    ensures all { IfOk result (λ l. (n : ℕ) → n < size → has l.items n ≡ true) }
-{
-    let mut numbers = Vec::with_capacity(alloc, size as usize)?;
-    for n in 0..size {
-        numbers.push(n)?;
-    }
-    Ok(numbers)
-}
-
 // Whether the node has many neighbours.
 fn is_hub<G: Digraph>(g: &G, n: u32) -> bool {
     g.is_node(n) && (g.parents(n).len() > MANY || g.children(n).len() > MANY)
@@ -296,6 +313,25 @@ fn unmark(block: &[Option<u32>], sizes: &mut Sizes, nodes: &[u32]) {
     }
 }
 
+// Puts those of the nodes behind the others whose blocks are marked, or aren't.
+fn push_marked(
+    next: &mut Vec<u32>,
+    block: &[Option<u32>],
+    marks: &[bool],
+    on: bool,
+    nodes: &[u32],
+) -> Result<(), Memory>
+    ensures { OnOk result ((m : ℕ) → has next.new.items m
+        ≡ (has next.old.items m || (has nodes.now m && is_marked marks.now on (at block.now m)))) }
+{
+    for n in nodes {
+        if is_marked(marks, on, block_of(block, *n)) {
+            next.push(*n)?;
+        }
+    }
+    Ok(())
+}
+
 // The active nodes without those in blocks with hubs, which are put behind the later ones.
 fn put_off_hubs<G: Digraph>(
     alloc: Global,
@@ -315,27 +351,26 @@ fn put_off_hubs<G: Digraph>(
         return Ok(next);
     }
     let mut light = Vec::new(alloc);
-    push_shared(&mut light, block, &sizes.light, &next)?;
-    push_shared(later, block, &sizes.heavy, &next)?;
+    push_marked(&mut light, block, &sizes.marks, false, &next)?;
+    push_marked(later, block, &sizes.marks, true, &next)?;
     unmark(block, sizes, &next);
     sort_dedup(&mut light);
     Ok(light)
 }
 
 // The nodes of the next round: the later ones, if no others are active.
-fn take_turn(alloc: Global, light: Vec<u32>, later: &mut Vec<u32>) -> Result<Vec<u32>, Memory>
+fn take_turn(light: Vec<u32>, later: &mut Vec<u32>) -> Vec<u32>
     requires { IsStrictlyIncreasing light.items }
-    ensures rising { IfOk result (λ l. IsStrictlyIncreasing l.items) }
-    ensures closed { IfOk result (λ l. (s : Shape) → IsClosed s light.items → IsClosed s later.old.items → IsClosed s l.items) }
-    ensures later { OnOk result ((s : Shape) → IsClosed s later.old.items → IsClosed s later.new.items) }
+    ensures rising { IsStrictlyIncreasing result.items }
+    ensures closed { (s : Shape) → IsClosed s light.items → IsClosed s later.old.items → IsClosed s result.items }
+    ensures later { (s : Shape) → IsClosed s later.old.items → IsClosed s later.new.items }
 {
-    if !light.is_empty() {
-        return Ok(light);
+    let mut turn = light;
+    if turn.is_empty() {
+        swap(&mut turn, later);
+        sort_dedup(&mut turn);
     }
-    let mut turn = later.to_vec(alloc)?;
-    later.clear();
-    sort_dedup(&mut turn);
-    Ok(turn)
+    turn
 }
 
 // One round, and which nodes are active in the next one.
@@ -357,11 +392,13 @@ fn part_in_turn<G: Digraph>(
 {
     let next = part_wider(alloc, g, block, sizes, lists, active)?;
     let light = put_off_hubs(alloc, g, block, sizes, next, later)?;
-    let turn = take_turn(alloc, light, later)?;
+    let turn = take_turn(light, later);
     Ok(turn)
 }
 
-// Rounds until no node is active.
+// Rounds until no node is active. Each round in which nodes go to another block leaves more blocks, of which there are at most as many as
+// nodes. After any other round the later nodes are active; if none of these goes to another block either, no node is active any more. So at
+// most every other round leaves the blocks as they are, and twice as many rounds as nodes are enough, with the first and the last one.
 fn part_all<G: Digraph>(
     alloc: Global,
     g: &G,
@@ -386,22 +423,46 @@ fn part_all<G: Digraph>(
     Ok(())
 }
 
+// All nodes that aren't alone in their blocks.
+fn all_shared(
+    alloc: Global,
+    size: u32,
+    block: &[Option<u32>],
+    members: &[u32],
+) -> Result<Vec<u32>, Memory>
+    ensures rising { IfOk result (λ l. IsStrictlyIncreasing l.items) }
+    ensures shared { IfOk result (λ l. AreShared block.now members.now size l.items) }
+{
+    let mut nodes = Vec::new(alloc);
+    for n in 0..size {
+        if is_shared(members, block_of(block, n)) {
+            nodes.push(n)?;
+        }
+    }
+    sort_dedup(&mut nodes);
+    Ok(nodes)
+}
+
 /// A partition that is no finer than full bisimilarity by parents and children. It is that, where no node is left that is active after as
 /// many rounds as twice the nodes and two more.
 ///
-/// At first all nodes are active; then, of the nodes next to those that went to another block, those that aren't alone in theirs, and with
-/// them their whole block if more of it are active than not. The largest part of a block whose members are all active keeps its number, so
-/// nodes go to another block O(n log n) times together (J. Hopcroft, 1971). Expected O(n + m log m) for n node numbers and m neighbours of
-/// nodes that are active, each as often as it is. A node is active again after a round in which a neighbour went to another block; so that
-/// hubs aren't active in each round, blocks of which a hub is active are put off until no others are active. It takes 60 bytes a number, 20
-/// for each time that a node goes to another block, and the tables of the first round.
+/// The first levels are made of all nodes. Then all are active that aren't alone in their blocks; and later, of the nodes next to those that
+/// went to another block, those that aren't alone in theirs, and with them their whole block if more of it are active than not. The largest
+/// part of a block whose members are all active keeps its number, so nodes go to another block O(n log n) times together (J. Hopcroft, 1971).
+/// Expected O(n + m log m) for n node numbers and m neighbours of nodes that are active, each as often as it is. A node is active again after a
+/// round in which a neighbour went to another block; so that hubs aren't active in each round, blocks of which a hub is active are put off
+/// until no others are active.
+///
+/// The first levels take 24 bytes a number, and a table of keys. Then it takes 8 bytes a number, 13 for each block, 20 for each number and for
+/// each time that a node goes to another block, and in a round 28 bytes and the key for each active node and 4 for each neighbour of those
+/// that go to another block. A table that grows may take twice as much.
 pub(crate) fn part_active<G: Digraph>(alloc: Global, g: &G) -> Result<Vec<Option<u32>>, Memory>
     ensures { IfOk result (λ l. IsCoarse (digraph_shape G.Digraph g.now) l.items) }
 {
-    let mut block = label_list(alloc, g)?;
+    let mut block = level_both(alloc, g, FIRST)?;
     let mut sizes = Sizes::new(alloc, &block)?;
+    let first = all_shared(alloc, g.size(), &block, &sizes.members)?;
     let mut lists = list_all(alloc, &block, g.size())?;
-    let first = all_numbers(alloc, g.size())?;
     part_all(alloc, g, &mut block, &mut sizes, &mut lists, first)?;
     Ok(block)
 }

@@ -1,63 +1,16 @@
 // Full bisimilarity by parents and children.
-ghost use Rattle.std.specs.Prelude.{◌↔◌, ℕ, IfOk, IsTrue, IsSome};
-ghost use Rattle.graph_spec.specs.Members.{at};
-ghost use Rattle.index_check.specs.Refinement.{Refines, IsNextLevel};
-ghost use Rattle.index_check.specs.NeighbourSides.{is_neighbour};
-ghost use Rattle.bisim_spec.specs.declared.sides.Side.TheVariants.{Children};
+ghost use Rattle.std.specs.Prelude.{◌↔◌, IfOk, IsTrue};
 ghost use Rattle.bisim_spec.specs.Bisimilarity.{Both, FB};
 ghost use Rattle.bisim_spec.specs.Partitions.{IsPartition, Agrees};
 ghost use Rattle.index_check.specs.NumberedShapes.{digraph_shape};
 
 use crate::active::part_active;
 use crate::comparing::{are_same, determines};
-use crate::levels::label_list;
-use crate::refining::refine;
+use crate::levels::{label_list, level_both, next_both};
 use crate::stability::is_stable_both;
-use bisim_spec::Side;
 use label_graph::Digraph;
 use px_base::Memory;
 use std::alloc::Global;
-
-// The partition `own`, refined by the blocks of children.
-fn refine_children<G: Digraph>(
-    alloc: Global,
-    g: &G,
-    own: &[Option<u32>],
-    base: &[Option<u32>],
-) -> Result<Vec<Option<u32>>, Memory>
-    requires own { (n : ℕ) → IsSome (at own.now n) → IsSome (G.label_at g.now n) }
-    requires base { (n : ℕ) → IsSome (G.label_at g.now n) → IsSome (at base.now n) }
-    ensures { IfOk result (λ next. Refines (at own.now) base.now (is_neighbour Children (G.edge g.now)) next.items) }
-{
-    refine(alloc, g, Side::Children, own, base)
-}
-
-// The level above one.
-fn next_both<G: Digraph>(
-    alloc: Global,
-    g: &G,
-    block: &[Option<u32>],
-) -> Result<Vec<Option<u32>>, Memory>
-    requires partition { IsPartition (digraph_shape G.Digraph g.now) block.now }
-    ensures partition { IfOk result (λ l. IsPartition (digraph_shape G.Digraph g.now) l.items) }
-    ensures agrees { IfOk result (λ l. IsNextLevel Both (digraph_shape G.Digraph g.now) block.now l.items) }
-{
-    let mid = refine(alloc, g, Side::Parents, block, block)?;
-    let next = refine_children(alloc, g, &mid, block)?;
-    Ok(next)
-}
-
-// The nodes that are bisimilar to a level, by parents and children.
-fn level_both<G: Digraph>(alloc: Global, g: &G, i: u32) -> Result<Vec<Option<u32>>, Memory>
-    ensures { IfOk result (λ l. Agrees (digraph_shape G.Digraph g.now) l.items (Both (digraph_shape G.Digraph g.now) i)) }
-{
-    let mut block = label_list(alloc, g)?;
-    for j in 0..i {
-        let next = next_both(alloc, g, &block)?;
-        block = next;
-    }
-    Ok(block)
-}
 
 /// Whether the blocks are the classes of nodes that are bisimilar to level `i` by parents and children, as in a bounded forward and
 /// backward index (Kaushik et al., SIGMOD 2002). It costs twice what `fits_level` costs.

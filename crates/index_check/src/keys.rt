@@ -60,6 +60,19 @@ pub(crate) fn write_key<F: Fn(u32) -> Option<u32>>(
     Ok(())
 }
 
+/// The same with the blocks of a list.
+pub(crate) fn write_blocks(
+    key: &mut Vec<u32>,
+    nodes: &[u32],
+    number: u32,
+    base: &[Option<u32>],
+) -> Result<(), Memory>
+    ensures { OnOk result (IsWritten (at base.now) nodes.now number key.new.items) }
+{
+    write_key(key, nodes, number, |n| block_of(base, n))?;
+    Ok(())
+}
+
 /// The number of that key. `key` is where it is written.
 pub(crate) fn find_key(
     keys: &mut KeyTable,
@@ -71,6 +84,6 @@ pub(crate) fn find_key(
     ensures ok { IfOk result (λ k. (written : List ℕ) × IsWritten (at base.now) nodes.now number written × Interns keys.old keys.new written k) }
     ensures distinct { IfOk result (λ k. AreDistinct keys.new) }
 {
-    write_key(key, nodes, number, |n| block_of(base, n))?;
+    write_blocks(key, nodes, number, base)?;
     keys.intern(key)
 }

@@ -1,9 +1,11 @@
 // The levels of bisimilarity, each from the one below.
-ghost use Rattle.std.specs.Prelude.{◌≡◌, ◌↔◌, ℕ, IfOk, IsTrue};
+ghost use Rattle.std.specs.Prelude.{◌≡◌, ◌↔◌, ℕ, IfOk, IsTrue, IsSome};
 ghost use Rattle.graph_spec.specs.Members.{at};
-ghost use Rattle.bisim_spec.specs.Bisimilarity.{Bis};
+ghost use Rattle.bisim_spec.specs.declared.sides.Side.TheVariants.{Children};
+ghost use Rattle.bisim_spec.specs.Bisimilarity.{Bis, Both};
 ghost use Rattle.bisim_spec.specs.Partitions.{IsPartition, Agrees};
-ghost use Rattle.index_check.specs.Refinement.{IsNextLevel};
+ghost use Rattle.index_check.specs.NeighbourSides.{is_neighbour};
+ghost use Rattle.index_check.specs.Refinement.{IsNextLevel, Refines};
 ghost use Rattle.index_check.specs.NumberedShapes.{digraph_shape};
 
 use crate::comparing::are_same;
@@ -66,4 +68,49 @@ pub(crate) fn fits_level<G: Digraph>(
 {
     let right = level(alloc, g, i)?;
     are_same(alloc, &right, block)
+}
+
+// The partition `own`, refined by the blocks of children.
+fn refine_children<G: Digraph>(
+    alloc: Global,
+    g: &G,
+    own: &[Option<u32>],
+    base: &[Option<u32>],
+) -> Result<Vec<Option<u32>>, Memory>
+    requires own { (n : ℕ) → IsSome (at own.now n) → IsSome (G.label_at g.now n) }
+    requires base { (n : ℕ) → IsSome (G.label_at g.now n) → IsSome (at base.now n) }
+    ensures { IfOk result (λ next. Refines (at own.now) base.now (is_neighbour Children (G.edge g.now)) next.items) }
+{
+    refine(alloc, g, Side::Children, own, base)
+}
+
+/// The level above one, by parents and children.
+pub(crate) fn next_both<G: Digraph>(
+    alloc: Global,
+    g: &G,
+    block: &[Option<u32>],
+) -> Result<Vec<Option<u32>>, Memory>
+    requires partition { IsPartition (digraph_shape G.Digraph g.now) block.now }
+    ensures partition { IfOk result (λ l. IsPartition (digraph_shape G.Digraph g.now) l.items) }
+    ensures agrees { IfOk result (λ l. IsNextLevel Both (digraph_shape G.Digraph g.now) block.now l.items) }
+{
+    let mid = refine(alloc, g, Side::Parents, block, block)?;
+    let next = refine_children(alloc, g, &mid, block)?;
+    Ok(next)
+}
+
+/// The nodes that are bisimilar to a level, by parents and children.
+pub(crate) fn level_both<G: Digraph>(
+    alloc: Global,
+    g: &G,
+    i: u32,
+) -> Result<Vec<Option<u32>>, Memory>
+    ensures { IfOk result (λ l. Agrees (digraph_shape G.Digraph g.now) l.items (Both (digraph_shape G.Digraph g.now) i)) }
+{
+    let mut block = label_list(alloc, g)?;
+    for j in 0..i {
+        let next = next_both(alloc, g, &block)?;
+        block = next;
+    }
+    Ok(block)
 }

@@ -1,7 +1,7 @@
 // The numbers of blocks that are parted. What a part is called decides how much work is left, and never what is found: so nothing is
 // promised here.
 ghost use Rattle.std.specs.Prelude.{◌≡◌};
-ghost use Rattle.index_check.specs.Active.{number_in, is_shared};
+ghost use Rattle.index_check.specs.Active.{is_marked, is_shared, mark_in, number_in};
 
 use crate::keys::block_of;
 use px_base::Memory;
@@ -25,17 +25,14 @@ fn put_at(numbers: &mut [u32], i: u32, number: u32) {
     }
 }
 
-/// How many members each block has, by its number, how many of them are active, how many nodes are on its list, and the largest part of
-/// each block that was parted last. A block that is marked has 2 in `heavy` and 0 in `light`, any other the reverse. Numbers from `free` on
-/// are no blocks.
+/// What is known of each block, by its number: how many members it has, how many nodes are on its list, and whether it is marked. `work` is 0
+/// for each block between calls. Numbers from `free` on are no blocks.
 #[derive(Drop)]
 pub(crate) struct Sizes {
     pub(crate) members: Vec<u32>,
-    pub(crate) light: Vec<u32>,
-    pub(crate) heavy: Vec<u32>,
-    active: Vec<u32>,
+    pub(crate) marks: Vec<bool>,
     listed: Vec<u32>,
-    largest: Vec<u32>,
+    work: Vec<u32>,
     free: u32,
 }
 
@@ -73,11 +70,9 @@ impl Sizes {
         let listed = members.to_vec(alloc)?;
         Ok(Sizes {
             members,
-            light: vec![in alloc; 2; free as usize]?,
-            heavy: vec![in alloc; 0; free as usize]?,
-            active: vec![in alloc; 0; free as usize]?,
+            marks: vec![in alloc; false; free as usize]?,
             listed,
-            largest: vec![in alloc; 0; free as usize]?,
+            work: vec![in alloc; 0; free as usize]?,
             free,
         })
     }
@@ -85,28 +80,30 @@ impl Sizes {
     /// Marks a block, or takes its mark off.
     pub(crate) fn mark(&mut self, block: Option<u32>, on: bool) {
         if let Some(b) = block {
-            put_at(&mut self.light, b, if on { 0 } else { 2 });
-            put_at(&mut self.heavy, b, if on { 2 } else { 0 });
-        }
-    }
-
-    /// Counts the active nodes of each block, where no block has any yet.
-    pub(crate) fn count_active(&mut self, block: &[Option<u32>], active: &[u32]) {
-        for n in active {
-            if let Some(b) = block_of(block, *n) {
-                let more = number_at(&self.active, b).wrapping_add(1);
-                put_at(&mut self.active, b, more);
+            if (b as usize) < self.marks.len() {
+                self.marks[b as usize] = on;
             }
         }
     }
 
-    /// Whether all members of the block should be active: some aren't, more are, and most on its list are still in it. If most went away,
-    /// the members that are active go to new lists without those. The block is asked for once: it then has no active node any more.
+    /// Counts the active nodes of each block.
+    pub(crate) fn count_active(&mut self, block: &[Option<u32>], active: &[u32]) {
+        for n in active {
+            if let Some(b) = block_of(block, *n) {
+                let more = number_at(&self.work, b).wrapping_add(1);
+                put_at(&mut self.work, b, more);
+            }
+        }
+    }
+
+    /// Whether all members of the block should be active: some aren't, more are, and at least an eighth of the nodes on its list are still in
+    /// it. If fewer are, it isn't worth while to read the list: the members that are active go to new lists without the others. The block is
+    /// asked for once after active nodes were counted.
     pub(crate) fn takes_rest(&mut self, b: u32) -> bool {
-        let active = number_at(&self.active, b);
+        let active = number_at(&self.work, b);
         let size = number_at(&self.members, b);
         let rest = size.wrapping_sub(active);
-        put_at(&mut self.active, b, 0);
+        put_at(&mut self.work, b, 0);
         0 < rest && rest < active && number_at(&self.listed, b) / 8 <= size
     }
 }
@@ -139,20 +136,13 @@ fn parts_of(
     Ok(parts)
 }
 
-// Makes the part the largest of its block, if that has none yet or one that is smaller.
-fn note_largest(largest: &mut [u32], parts: &[Part], k: u32) {
-    if k as usize >= parts.len() {
-        return;
-    }
-    let part = parts[k as usize];
-    let before = number_at(largest, part.block);
-    if before >= k || before as usize >= parts.len() {
-        put_at(largest, part.block, k);
-        return;
-    }
-    let other = parts[before as usize];
-    if other.block != part.block || other.size < part.size {
-        put_at(largest, part.block, k);
+// Makes the part the largest of its block, if that has none yet or one that is smaller. The largest is noted by its number and one more.
+fn note_largest(largest: &mut [u32], parts: &[Part], k: u32, part: Part) {
+    let noted = number_at(largest, part.block);
+    if noted == 0 || noted as usize > parts.len() {
+        put_at(largest, part.block, k.wrapping_add(1));
+    } else if parts[noted as usize - 1].size < part.size {
+        put_at(largest, part.block, k.wrapping_add(1));
     }
 }
 
@@ -162,26 +152,32 @@ fn take_off(sizes: &mut Sizes, parts: &[Part]) {
     for part in parts {
         let left = number_at(&sizes.members, part.block).wrapping_sub(part.size);
         put_at(&mut sizes.members, part.block, left);
-        note_largest(&mut sizes.largest, parts, k);
+        note_largest(&mut sizes.work, parts, k, *part);
         k = k.wrapping_add(1);
     }
 }
 
 // The number of a part: that of its block, if all members were active and no part is larger, else a new one.
 fn name_part(sizes: &mut Sizes, part: Part, k: u32) -> Result<u32, Memory> {
-    if number_at(&sizes.members, part.block) == 0 && number_at(&sizes.largest, part.block) == k {
+    let largest = number_at(&sizes.work, part.block) == k.wrapping_add(1);
+    if largest && number_at(&sizes.members, part.block) == 0 {
         put_at(&mut sizes.members, part.block, part.size);
         return Ok(part.block);
     }
     let name = sizes.free;
     sizes.free = name.wrapping_add(1);
     sizes.members.push(part.size)?;
-    sizes.light.push(2)?;
-    sizes.heavy.push(0)?;
-    sizes.active.push(0)?;
+    sizes.marks.push(false)?;
     sizes.listed.push(part.size)?;
-    sizes.largest.push(0)?;
+    sizes.work.push(0)?;
     Ok(name)
+}
+
+// Forgets the largest parts of blocks.
+fn clear_work(sizes: &mut Sizes, parts: &[Part]) {
+    for part in parts {
+        put_at(&mut sizes.work, part.block, 0);
+    }
 }
 
 /// A number for each group of active nodes. The largest part of a block whose members were all active keeps the number of the block.
@@ -201,6 +197,7 @@ pub(crate) fn name_groups(
         names.push(name)?;
         k = k.wrapping_add(1);
     }
+    clear_work(sizes, &parts);
     Ok(names)
 }
 
@@ -210,6 +207,27 @@ pub(crate) fn is_shared(members: &[u32], block: Option<u32>) -> bool
 {
     match block {
         Some(b) => number_at(members, b) > 1,
+        None => false,
+    }
+}
+
+// The mark at a place, and none past the end.
+fn mark_at(marks: &[bool], i: u32) -> bool
+    ensures { result ≡ mark_in marks.now i }
+{
+    if (i as usize) < marks.len() {
+        marks[i as usize]
+    } else {
+        false
+    }
+}
+
+/// Whether the node has a block with this mark.
+pub(crate) fn is_marked(marks: &[bool], on: bool, block: Option<u32>) -> bool
+    ensures { result ≡ is_marked marks.now on block }
+{
+    match block {
+        Some(b) => mark_at(marks, b) == on,
         None => false,
     }
 }

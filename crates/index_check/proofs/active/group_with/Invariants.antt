@@ -5,8 +5,7 @@ use Rattle.index_check.proofs.active.group_with.Given as goal
 
 abbrev pub invariant-loop-i : goal.invariant-loop-i
 invariant-loop-i g l = record {
-  grouped : GroupedBelow (g.G.Digraph.edge l.g) l.block l.active l.i l.keys.by_parents l.keys.by_both l.groups.items;
-  first : AreDistinct l.keys.by_parents;
-  second : AreDistinct l.keys.by_both;
+  grouped : GroupedBelow (g.G.Digraph.edge l.g) l.block l.active l.i l.keys.table l.groups.items;
+  distinct : AreDistinct l.keys.table;
   within : l.i ≤ length l.active;
 }

@@ -1,4 +1,4 @@
-use Rattle.std.proofs.Common.{None, length, sym, ap, ◌∙◌, arith}
+use Rattle.std.proofs.Common.{None, arith}
 use Rattle.std.proofs.lemmas.List.{ext_get_or}
 use Rattle.index_file.specs.SavedGraphs.{blocks_at}
 use Rattle.index_check.proofs.fitting.block_list.Goals as goal

@@ -3,7 +3,7 @@ use Rattle.index_check.proofs.LevelLaws.{both_up, refined_partition, refines_nex
 use Rattle.index_check.specs.NumberedShapes.{digraph_shape}
 use Rattle.index_check.specs.NeighbourSides.{is_neighbour}
 use Rattle.bisim_spec.specs.declared.sides.Side.TheVariants.{Parents, Children}
-use Rattle.index_check.proofs.both.next_both.Goals as goal
+use Rattle.index_check.proofs.levels.next_both.Goals as goal
 
 pub refine-requires-clause-own : goal.refine-requires-clause-own
 refine-requires-clause-own g c = λ n h. node_of (g.G.Digraph.label_at c.args.g.now n) (c.requires.partition.only n h)
