@@ -1,7 +1,7 @@
 -- Putting a line together, piece by piece.
-use Rattle.std.proofs.Common.{◌≡◌, ℕ, ◌≤◌, List, [], ◌++◌, ◌∷◌, ◌-◌, suc, length, Option, None, Some, sym, ap, ◌∙◌, append_assoc, append-nil, Bool, IsTrue, Result, Ok, Err, OnOk, arith, length-append}
+use Rattle.std.proofs.Common.{◌≡◌, ℕ, List, [], ◌++◌, ◌∷◌, ◌-◌, suc, length, Option, None, Some, sym, ap, ◌∙◌, append_assoc, Bool, IsTrue, arith, length-append}
 use Rattle.std.specs.Io.KnownBytes.{Consumes, Keeps, prepend_known}
-use Rattle.std.proofs.KnownBytes.{Consumes-nil, Consumes-kept, Consumes-trans}
+use Rattle.std.proofs.KnownBytes.{Consumes-kept, Consumes-trans}
 use Rattle.px_base.proofs.Windows.{plain-append}
 use Rattle.px_base.specs.GatheredLines.{TakesPart, Overfills, Gathers, IsTooLong}
 use Rattle.px_base.specs.LineEnds.{has_end}

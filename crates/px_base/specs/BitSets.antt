@@ -1,5 +1,5 @@
 -- A set of numbers below a size.
-use Rattle.std.specs.Prelude.{◌≡◌, ℕ, ◌+◌, ◌<◌, ◌≤◌, Bool, true, false, List, [], ◌∷◌, if◌then◌else◌}
+use Rattle.std.specs.Prelude.{◌≡◌, ℕ, ◌+◌, ◌<◌, ◌≤◌, Bool, true, false, List, [], ◌∷◌, map, nat_eq, if◌then◌else◌}
 use Rattle.graph_spec.specs.Members.{has}
 
 pub record BitSet : Type 0 where
@@ -7,6 +7,10 @@ pub record BitSet : Type 0 where
   pub size : ℕ
   -- the numbers in the set, rising
   pub members : List ℕ
+
+-- which bytes are 1
+abbrev pub flags_of : List ℕ → List Bool
+flags_of bytes = map (λ b. nat_eq b 1) bytes
 
 -- the places of the flags that are set, where the first flag has this place
 abbrev pub places_from : ℕ → List Bool → List ℕ

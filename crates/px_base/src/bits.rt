@@ -1,11 +1,11 @@
 // A set of small numbers.
-ghost use Rattle.std.specs.Prelude.{◌≡◌, ℕ, ◌<◌, ◌≤◌, ◌^◌, ◌&&◌, ◌||◌, ◌++◌, ◌∷◌, not, nat_eq, nat_le, true, false, [], length, filter, slice_get, IfOk, OnOk, MatchOption, if◌then◌else◌};
-ghost use Rattle.std.specs.List.{position};
+ghost use Rattle.std.specs.Prelude.{◌≡◌, ℕ, ◌<◌, ◌≤◌, ◌^◌, ◌&&◌, ◌||◌, ◌++◌, ◌∷◌, not, nat_eq, nat_le, true, false, [], length, filter, get_or, slice_get, IfOk, OnOk, MatchOption, if◌then◌else◌};
 ghost use Rattle.std.specs.List.Sorted.{IsStrictlyIncreasing};
 ghost use Rattle.graph_spec.specs.Members.{has};
-ghost use Rattle.px_base.specs.BitSets.{IsNext, places_from};
+ghost use Rattle.px_base.specs.BitSets.{IsNext, flags_of, places_from};
 
 use crate::Memory;
+use memchr::{memchr, memchr_iter};
 use std::alloc::Global;
 use std::marker::Model;
 
@@ -22,19 +22,20 @@ use std::marker::Model;
 ///     }
 #[derive(Drop)]
 pub struct Bits {
-    flags: Vec<bool>,
+    // 1 for a member, else 0
+    flags: Vec<u8>,
     count: u32,
 }
 
 impl Model for Bits {
     ghost use Rattle.std.specs.Prelude.{◌≡◌, ◌<◌, ◌^◌, length, vec_len};
-    ghost use Rattle.px_base.specs.BitSets.{BitSet, places_from};
+    ghost use Rattle.px_base.specs.BitSets.{BitSet, flags_of, places_from};
 
     ghost Value = { BitSet };
 
-    ghost view = { λ b. record { size = vec_len b.flags; members = places_from 0 b.flags.items } };
+    ghost view = { λ b. record { size = vec_len b.flags; members = places_from 0 (flags_of b.flags.items) } };
 
-    ghost invariant = { λ b. (vec_len b.flags < 2 ^ 32) × (b.count ≡ length (places_from 0 b.flags.items)) };
+    ghost invariant = { λ b. (vec_len b.flags < 2 ^ 32) × (b.count ≡ length (places_from 0 (flags_of b.flags.items))) };
 }
 
 impl Bits {
@@ -42,7 +43,7 @@ impl Bits {
     pub fn new(alloc: Global, size: u32) -> Result<Bits, Memory>
         ensures { IfOk result (λ b. b ≡ record { size = size; members = [] }) }
     {
-        let flags = vec![in alloc; false; size as usize]?;
+        let flags = vec![in alloc; 0; size as usize]?;
         Ok(Bits { flags, count: 0 })
     }
 
@@ -60,7 +61,7 @@ impl Bits {
     pub fn contains(&self, n: u32) -> bool
         ensures { result ≡ has self.now.members n }
     {
-        (n as usize) < self.flags.len() && self.flags[n as usize]
+        is_set(&self.flags, n as usize)
     }
 
     /// How many members there are. O(1), no memory.
@@ -79,8 +80,11 @@ impl Bits {
         ensures next { MatchOption result ((m : ℕ) → n ≤ m → has self.now.members m ≡ false) (λ m. IsNext self.now.members n m) }
         ensures head { result ≡ slice_get (filter (λ m. nat_le n m) self.now.members) 0 }
     {
+        if is_set(&self.flags, n as usize) {
+            return Some(n);
+        }
         let start = (n as usize).min(self.flags.len());
-        match first_set(&self.flags[start..]) {
+        match memchr(1, &self.flags[start..]) {
             Some(gap) => Some((start + gap) as u32),
             None => None,
         }
@@ -100,10 +104,10 @@ impl Bits {
         ensures members { (m : ℕ) → has self.new.members m ≡ (nat_eq m n || has self.old.members m) }
         ensures rising { IsStrictlyIncreasing self.new.members }
     {
-        if self.flags[n as usize] {
+        if self.flags[n as usize] == 1 {
             return;
         }
-        self.flags[n as usize] = true;
+        self.flags[n as usize] = 1;
         self.count += 1;
     }
 
@@ -114,39 +118,29 @@ impl Bits {
         ensures members { (m : ℕ) → has self.new.members m ≡ (not (nat_eq m n) && has self.old.members m) }
         ensures rising { IsStrictlyIncreasing self.new.members }
     {
-        if !self.flags[n as usize] {
+        if self.flags[n as usize] != 1 {
             return;
         }
-        self.flags[n as usize] = false;
+        self.flags[n as usize] = 0;
         self.count -= 1;
     }
 }
 
-/// The place of the first flag that is set.
-fn first_set(flags: &[bool]) -> Option<usize>
-    ensures { result ≡ position (λ flag. flag) flags.now }
+/// Whether there is a flag at this place that is set.
+fn is_set(flags: &[u8], place: usize) -> bool
+    ensures { result ≡ nat_eq (get_or flags.now place 0) 1 }
 {
-    flags.iter().position(|flag| *flag)
-}
-
-/// Puts the number behind the others, where it is wanted.
-fn push_if(list: &mut Vec<u32>, n: u32, wanted: bool) -> Result<(), Memory>
-    ensures { OnOk result (list.new.items ≡ list.old.items ++ (if wanted then n ∷ [] else [])) }
-{
-    if wanted {
-        list.push(n)?;
-    }
-    Ok(())
+    place < flags.len() && flags[place] == 1
 }
 
 /// The places of the flags that are set.
-fn places(alloc: Global, flags: &[bool]) -> Result<Vec<u32>, Memory>
+fn places(alloc: Global, flags: &[u8]) -> Result<Vec<u32>, Memory>
     requires few { length flags.now < 2 ^ 32 }
-    ensures { IfOk result (λ list. list.items ≡ places_from 0 flags.now) }
+    ensures { IfOk result (λ list. list.items ≡ places_from 0 (flags_of flags.now)) }
 {
     let mut list = Vec::new(alloc);
-    for i in 0..flags.len() {
-        push_if(&mut list, i as u32, flags[i])?;
+    for place in memchr_iter(1, flags) {
+        list.push(place as u32)?;
     }
     Ok(list)
 }

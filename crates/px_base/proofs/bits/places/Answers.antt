@@ -1,15 +1,21 @@
-use Rattle.std.proofs.Common.{◌≡◌, ◌+◌, ◌∙◌, ap, sym, suc, arith, take, get_or, false, List, ℕ}
-use Rattle.std.specs.Prelude.{◌++◌, ◌∷◌, [], if◌then◌else◌}
-use Rattle.px_base.specs.BitSets.{places_from}
-use Rattle.px_base.proofs.FlagIndexes.{places-more}
+use Rattle.std.proofs.Common.{◌<◌, length, ◌∙◌}
+use Rattle.memchr.specs.Find.{Passes, is_byte}
+use Rattle.memchr.proofs.lemmas.CallerLemmas.{All-places}
+use Rattle.px_base.proofs.FlagIndexes.{search-places, rest-all, rest-listed}
 use Rattle.px_base.proofs.bits.places.Goals as goal
 
-pub loop-i-preserved : goal.loop-i-preserved
-loop-i-preserved c =
-    let flags = c.args.flags.now in
-    let i = c.loop-i.i in
-    let next : suc i ≡ i + 1 = omega arith in
-    c.in_ok-push_if.ensures
-    ∙ ap (λ (list : List ℕ). list ++ (if get_or flags i false then i ∷ [] else [])) c.loop-i.invariant
-    ∙ sym (places-more 0 i flags i (omega arith) c.loop-i-test.true)
-    ∙ ap (λ n. places_from 0 (take n flags)) next
+pub loop-place-init : goal.loop-place-init
+loop-place-init c =
+    let same = c.into_iter-place-iterator.ensures.into_iter_gives ∙ c.memchr_iter-place-items.ensures.value in
+    record {
+      below = rw same (All-places (is_byte 1) c.args.flags.now);
+      listed = rw (c.new-list.ensures.items, same) (search-places c.args.flags.now);
+    }
+
+pub loop-place-preserved : goal.loop-place-preserved
+loop-place-preserved c =
+    let steps = c.in-Some.ensures.steps in
+    record {
+      below = rest-all (λ k. (k < length c.args.flags.now) × Passes (is_byte 1) c.args.flags.now k) _ _ _ steps c.loop-place.invariant.below;
+      listed = rest-listed _ _ _ _ _ _ c.in_ok-push.ensures.items steps c.loop-place.invariant.listed;
+    }
