@@ -6,6 +6,7 @@ pub mod ShownLabels
 pub mod TakenNumbers
 pub mod ExchangedNumbers
 pub mod ReservedPairs
+pub mod PairMarks
 pub mod EdgeLists
 pub mod Exchanged
 pub mod ListWithout

@@ -3,6 +3,7 @@ pub mod Nodes
 pub mod Segments
 pub mod NodeRows
 pub mod ReservedGraphs
+pub mod PairMarks
 pub mod Soundness
 pub mod GraphViews
 pub mod ViewLaws

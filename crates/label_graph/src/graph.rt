@@ -12,7 +12,7 @@ ghost use Rattle.label_graph.specs.GraphViews.{label_number, is_linked, numbered
 use crate::labels::Labels;
 use crate::node::Nodes;
 use crate::numbers::{show, take_number};
-use crate::pairs::{ending, starting, take_pair};
+use crate::pairs::ReservedPairs;
 use crate::view::GraphView;
 use px_base::{Memory, NodeId, Steps, Text};
 use std::alloc::Global;
@@ -41,7 +41,7 @@ pub struct Graph {
     node_count: u32,
     edge_count: u32,
     label_numbers: Vec<u32>,
-    pairs: Vec<(NodeId, NodeId)>,
+    pairs: ReservedPairs,
     relabel_numbers: Vec<u32>,
 }
 
@@ -77,11 +77,11 @@ impl Model for Graph {
 
     ghost view = { λ g. record {
       graph = graph_by g.labels g.nodes.shown g.nodes.nodes;
-      reserved = reserved_by g.labels g.label_numbers.items g.pairs.items g.relabel_numbers.items;
+      reserved = reserved_by g.labels g.label_numbers.items g.pairs g.relabel_numbers.items;
     } };
 
     ghost invariant = { λ g.
-        IsSoundGraph g.labels g.nodes.shown g.nodes.nodes g.edge_count g.node_count g.label_numbers.items g.pairs.items g.relabel_numbers.items };
+        IsSoundGraph g.labels g.nodes.shown g.nodes.nodes g.edge_count g.node_count g.label_numbers.items g.pairs g.relabel_numbers.items };
 }
 
 // Reading.
@@ -254,7 +254,7 @@ impl Graph {
             node_count: 0,
             edge_count: 0,
             label_numbers: Vec::new(alloc),
-            pairs: Vec::new(alloc),
+            pairs: ReservedPairs::new(alloc),
             relabel_numbers: Vec::new(alloc),
         })
     }
@@ -275,8 +275,9 @@ impl Graph {
     }
 
     /// Reserves capacity for an edge, behind what is reserved. Each of its ends is a live node, or one for which a label
-    /// is reserved. Where memory runs out all is as before. O(r), amortized, where r edges are reserved. An edge takes
-    /// none to 32 bytes: a node's first child and its first parent lie in the node, and each other takes 4 to 16.
+    /// is reserved. Where memory runs out all is as before. Amortized O(1), and O(r) where one of the r edges for which
+    /// capacity is reserved begins at `u`, ends at `v`, or shares a mark with one that does. An edge takes none to 32
+    /// bytes: a node's first child and its first parent lie in the node, and each other takes 4 to 16.
     pub fn reserve_edge(&mut self, u: NodeId, v: NodeId) -> Result<(), Memory>
         requires from { IsTrue (can_be_joined self.old u) }
         requires onto { IsTrue (can_be_joined self.old v) }
@@ -284,11 +285,10 @@ impl Graph {
         ensures ok { OnOk result (self.new.reserved ≡ with_reserved_pair self.old.reserved u v) }
         ensures err { OnErr result (self.new ≡ self.old) }
     {
-        self.pairs.reserve(1)?;
-        let from = starting(&self.pairs, u);
-        let onto = ending(&self.pairs, v);
+        let from = self.pairs.starting(u);
+        let onto = self.pairs.ending(v);
         self.nodes.reserve_edge(u, v, from, onto)?;
-        self.pairs.push_reserved((u, v));
+        self.pairs.push(u, v)?;
         Ok(())
     }
 
@@ -360,7 +360,7 @@ impl Graph {
         ensures graph { self.new.graph ≡ with_edge self.old.graph u v }
         ensures reserved { self.new.reserved ≡ without_reserved_pair self.old.reserved u v }
     {
-        take_pair(&mut self.pairs, u, v);
+        self.pairs.take(u, v);
         self.nodes.push_edge(u, v);
         self.edge_count += 1;
     }

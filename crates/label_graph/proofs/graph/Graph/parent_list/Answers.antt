@@ -3,8 +3,8 @@ use Rattle.label_graph.proofs.graph.Graph.parent_list.Goals as goal
 
 pub returns-clause-edges : goal.returns-clause-edges
 returns-clause-edges c =
-    rw (← c.self.view_is, c.parents.ensures) (parent-list c.self.inside.labels c.self.inside.nodes.shown c.self.inside.nodes.nodes c.self.inside.edge_count c.self.inside.node_count c.self.inside.label_numbers.items c.self.inside.pairs.items c.self.inside.relabel_numbers.items c.self.invariant c.args.n)
+    rw (← c.self.view_is, c.parents.ensures) (parent-list c.self.inside.labels c.self.inside.nodes.shown c.self.inside.nodes.nodes c.self.inside.edge_count c.self.inside.node_count c.self.inside.label_numbers.items c.self.inside.pairs c.self.inside.relabel_numbers.items c.self.invariant c.args.n)
 
 pub returns-clause-links : goal.returns-clause-links
 returns-clause-links c =
-    rw (← c.self.view_is, c.parents.ensures) (parent-links c.self.inside.labels c.self.inside.nodes.shown c.self.inside.nodes.nodes c.self.inside.edge_count c.self.inside.node_count c.self.inside.label_numbers.items c.self.inside.pairs.items c.self.inside.relabel_numbers.items c.self.invariant c.args.n)
+    rw (← c.self.view_is, c.parents.ensures) (parent-links c.self.inside.labels c.self.inside.nodes.shown c.self.inside.nodes.nodes c.self.inside.edge_count c.self.inside.node_count c.self.inside.label_numbers.items c.self.inside.pairs c.self.inside.relabel_numbers.items c.self.invariant c.args.n)

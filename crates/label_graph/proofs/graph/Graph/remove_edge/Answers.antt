@@ -33,16 +33,16 @@ invariant_of-self c =
     let s = c.self.inside in
     let new = c.remove_edge.new.self in
     let there = sym (has_edge-children s.nodes.nodes c.args.u c.args.v) ∙ ap (λ h. has_edge h.graph c.args.u c.args.v) c.self.view_is ∙ c.requires.present in
-    sound-as s.labels s.labels s.nodes.shown new.shown new.nodes (s.edge_count - 1) s.node_count s.label_numbers.items s.label_numbers.items s.pairs.items s.pairs.items s.relabel_numbers.items s.relabel_numbers.items
+    sound-as s.labels s.labels s.nodes.shown new.shown new.nodes (s.edge_count - 1) s.node_count s.label_numbers.items s.label_numbers.items s.pairs s.pairs s.relabel_numbers.items s.relabel_numbers.items
     refl c.remove_edge.ensures.shown refl refl refl
-    (sound-less s.nodes.shown s.nodes.nodes new.nodes c.args.u c.args.v c.remove_edge.ensures.lacking s.labels s.edge_count s.node_count s.label_numbers.items s.pairs.items s.relabel_numbers.items
+    (sound-less s.nodes.shown s.nodes.nodes new.nodes c.args.u c.args.v c.remove_edge.ensures.lacking s.labels s.edge_count s.node_count s.label_numbers.items s.pairs s.relabel_numbers.items
     c.self.invariant there c.remove_edge.ensures.reserved)
 
 pub returns : goal.returns
 returns c =
     let s = c.self.inside in
     let new = c.remove_edge.new.self in
-    let held = reserved_by s.labels s.label_numbers.items s.pairs.items s.relabel_numbers.items in
-    view-as s.labels s.labels s.nodes.shown new.shown new.nodes s.label_numbers.items s.label_numbers.items s.pairs.items s.pairs.items s.relabel_numbers.items s.relabel_numbers.items refl c.remove_edge.ensures.shown refl refl refl
+    let held = reserved_by s.labels s.label_numbers.items s.pairs s.relabel_numbers.items in
+    view-as s.labels s.labels s.nodes.shown new.shown new.nodes s.label_numbers.items s.label_numbers.items s.pairs s.pairs s.relabel_numbers.items s.relabel_numbers.items refl c.remove_edge.ensures.shown refl refl refl
     ∙ view-both _ _ held held (edge-taken s.nodes.shown s.nodes.nodes new.nodes c.args.u c.args.v c.remove_edge.ensures.lacking s.labels) refl
     ∙ ap (λ h. record { graph = without_edge h.graph c.args.u c.args.v; reserved = h.reserved }) c.self.view_is

@@ -21,10 +21,10 @@ invariant_of-self c =
     let live = ap (λ h. is_live h.graph c.args.u) c.self.view_is ∙ c.requires.live in
     let bare = unused_bare (graph_by s.labels s.nodes.shown s.nodes.nodes) c.args.u (ap (λ h. is_used h.graph c.args.u) c.self.view_is ∙ c.requires.unused) in
     let labels = ap (λ n. labels_of n new.nodes) (sym c.clear_label.ensures.shown) ∙ c.clear_label.ensures.labels in
-    sound-as s.labels s.labels s.nodes.shown new.shown new.nodes s.edge_count (s.node_count - 1) s.label_numbers.items s.label_numbers.items s.pairs.items s.pairs.items s.relabel_numbers.items s.relabel_numbers.items
+    sound-as s.labels s.labels s.nodes.shown new.shown new.nodes s.edge_count (s.node_count - 1) s.label_numbers.items s.label_numbers.items s.pairs s.pairs s.relabel_numbers.items s.relabel_numbers.items
     refl c.clear_label.ensures.shown refl refl refl
     (sound-gone s.labels s.nodes.shown s.nodes.nodes new.nodes c.args.u live labels c.clear_label.ensures.children c.clear_label.ensures.parents bare c.clear_label.ensures.reserved
-    s.edge_count s.node_count s.label_numbers.items s.pairs.items s.relabel_numbers.items c.self.invariant)
+    s.edge_count s.node_count s.label_numbers.items s.pairs s.relabel_numbers.items c.self.invariant)
 
 pub returns : goal.returns
 returns c =
@@ -32,7 +32,7 @@ returns c =
     let new = c.clear_label.new.self in
     let live = ap (λ h. is_live h.graph c.args.u) c.self.view_is ∙ c.requires.live in
     let labels = ap (λ n. labels_of n new.nodes) (sym c.clear_label.ensures.shown) ∙ c.clear_label.ensures.labels in
-    let held = reserved_by s.labels s.label_numbers.items s.pairs.items s.relabel_numbers.items in
-    view-as s.labels s.labels s.nodes.shown new.shown new.nodes s.label_numbers.items s.label_numbers.items s.pairs.items s.pairs.items s.relabel_numbers.items s.relabel_numbers.items refl c.clear_label.ensures.shown refl refl refl
+    let held = reserved_by s.labels s.label_numbers.items s.pairs s.relabel_numbers.items in
+    view-as s.labels s.labels s.nodes.shown new.shown new.nodes s.label_numbers.items s.label_numbers.items s.pairs s.pairs s.relabel_numbers.items s.relabel_numbers.items refl c.clear_label.ensures.shown refl refl refl
     ∙ view-both _ _ held held (node-taken s.labels s.nodes.shown s.nodes.nodes new.nodes c.args.u live labels c.clear_label.ensures.children c.clear_label.ensures.parents) refl
     ∙ ap (λ h. record { graph = without_node h.graph c.args.u; reserved = h.reserved }) c.self.view_is

@@ -64,9 +64,9 @@ invariant_of-self c =
     ∙ ap (λ k. slice_set (labels_of s.nodes.shown s.nodes.nodes) u (Some k)) c.show-number.ensures.number in
     let left = c.show-number.ensures.relabels ∙ ap (map (renumbered s.labels l)) c.take_number.ensures in
     sound-as (with_shown s.labels l) c.show-number.new.labels s.nodes.shown new.shown new.nodes s.edge_count s.node_count (map (renumbered s.labels l) s.label_numbers.items) c.show-number.new.numbers.items
-    s.pairs.items s.pairs.items (map (renumbered s.labels l) (without_number s.relabel_numbers.items l)) c.show-number.new.relabels.items
+    s.pairs s.pairs (map (renumbered s.labels l) (without_number s.relabel_numbers.items l)) c.show-number.new.relabels.items
     c.show-number.ensures.shown c.write_label.ensures.shown c.show-number.ensures.numbers refl left
-    (sound-labelled s.labels s.nodes.shown s.nodes.nodes new.nodes s.edge_count s.node_count u l t s.label_numbers.items s.pairs.items s.relabel_numbers.items c.self.invariant
+    (sound-labelled s.labels s.nodes.shown s.nodes.nodes new.nodes s.edge_count s.node_count u l t s.label_numbers.items s.pairs s.relabel_numbers.items c.self.invariant
     (slice_get_within (entries s.labels) l t is) is live labels c.write_label.ensures.children c.write_label.ensures.parents c.write_label.ensures.reserved)
 
 pub returns-clause-graph : goal.returns-clause-graph
@@ -83,7 +83,7 @@ returns-clause-graph c =
     ∙ ap (λ k. slice_set (labels_of s.nodes.shown s.nodes.nodes) u (Some k)) c.show-number.ensures.number in
     let left = c.show-number.ensures.relabels ∙ ap (map (renumbered s.labels l)) c.take_number.ensures in
     ap (λ x. graph_by x new.shown new.nodes) c.show-number.ensures.shown ∙ ap (λ n. graph_by (with_shown s.labels l) n new.nodes) c.write_label.ensures.shown
-    ∙ graph-labelled s.labels s.nodes.shown s.nodes.nodes new.nodes s.edge_count s.node_count u l t s.label_numbers.items s.pairs.items s.relabel_numbers.items c.self.invariant
+    ∙ graph-labelled s.labels s.nodes.shown s.nodes.nodes new.nodes s.edge_count s.node_count u l t s.label_numbers.items s.pairs s.relabel_numbers.items c.self.invariant
     (slice_get_within (entries s.labels) l t is) is live labels c.write_label.ensures.children c.write_label.ensures.parents c.write_label.ensures.reserved
     ∙ ap (λ h. labelled h.graph u t) c.self.view_is
 
@@ -100,7 +100,7 @@ returns-clause-reserved c =
     ap (λ n. labels_of n new.nodes) (sym c.write_label.ensures.shown) ∙ c.write_label.ensures.labels
     ∙ ap (λ k. slice_set (labels_of s.nodes.shown s.nodes.nodes) u (Some k)) c.show-number.ensures.number in
     let left = c.show-number.ensures.relabels ∙ ap (map (renumbered s.labels l)) c.take_number.ensures in
-    (λ i. reserved_by (c.show-number.ensures.shown i) (c.show-number.ensures.numbers i) s.pairs.items (left i))
-    ∙ reserved-labelled s.labels s.nodes.shown s.nodes.nodes new.nodes s.edge_count s.node_count u l t s.label_numbers.items s.pairs.items s.relabel_numbers.items c.self.invariant
+    (λ i. reserved_by (c.show-number.ensures.shown i) (c.show-number.ensures.numbers i) s.pairs (left i))
+    ∙ reserved-labelled s.labels s.nodes.shown s.nodes.nodes new.nodes s.edge_count s.node_count u l t s.label_numbers.items s.pairs s.relabel_numbers.items c.self.invariant
     (slice_get_within (entries s.labels) l t is) is live labels c.write_label.ensures.children c.write_label.ensures.parents c.write_label.ensures.reserved
     ∙ ap (λ h. without_reserved_relabel h.reserved t) c.self.view_is

@@ -3,7 +3,7 @@ use Rattle.label_graph.proofs.Viewed.{viewed_shape}
 use Rattle.label_graph.proofs.graph.Graph.view.Goals as goal
 
 pub returns-clause-graph : goal.returns-clause-graph
-returns-clause-graph g c = rw (← c.self.view_is) (is_graph c.self.inside.labels c.self.inside.nodes.shown c.self.inside.nodes.nodes c.self.inside.edge_count c.self.inside.node_count c.self.inside.label_numbers.items c.self.inside.pairs.items c.self.inside.relabel_numbers.items c.self.invariant)
+returns-clause-graph g c = rw (← c.self.view_is) (is_graph c.self.inside.labels c.self.inside.nodes.shown c.self.inside.nodes.nodes c.self.inside.edge_count c.self.inside.node_count c.self.inside.label_numbers.items c.self.inside.pairs c.self.inside.relabel_numbers.items c.self.invariant)
 
 pub returns-clause-shape : goal.returns-clause-shape
-returns-clause-shape g c = viewed_shape c.args.self.now.graph (rw (← c.self.view_is) (is_graph c.self.inside.labels c.self.inside.nodes.shown c.self.inside.nodes.nodes c.self.inside.edge_count c.self.inside.node_count c.self.inside.label_numbers.items c.self.inside.pairs.items c.self.inside.relabel_numbers.items c.self.invariant))
+returns-clause-shape g c = viewed_shape c.args.self.now.graph (rw (← c.self.view_is) (is_graph c.self.inside.labels c.self.inside.nodes.shown c.self.inside.nodes.nodes c.self.inside.edge_count c.self.inside.node_count c.self.inside.label_numbers.items c.self.inside.pairs c.self.inside.relabel_numbers.items c.self.invariant))
