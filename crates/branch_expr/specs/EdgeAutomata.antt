@@ -4,5 +4,5 @@ use Rattle.path_automaton.specs.declared.state.State.{State}
 use Rattle.path_automaton.specs.declared.state.State.TheVariants.{End, Any, Fork}
 
 -- one or more edges
-abbrev pub far_states : List State
-far_states = End ∷ Any 2 ∷ Fork 0 1 ∷ []
+abbrev pub descendant_states : List State
+descendant_states = End ∷ Any 2 ∷ Fork 0 1 ∷ []

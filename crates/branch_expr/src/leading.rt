@@ -4,7 +4,7 @@ ghost use Rattle.graph_spec.specs.Members.{has};
 ghost use Rattle.path_automaton.specs.NewMarks.{Passes};
 ghost use Rattle.branch_spec.specs.BranchAnswers.{Along, Reaches};
 ghost use Rattle.branch_expr.specs.Axes.{axis_of};
-ghost use Rattle.branch_expr.specs.EdgeAutomata.{far_states};
+ghost use Rattle.branch_expr.specs.EdgeAutomata.{descendant_states};
 ghost use Rattle.branch_expr.specs.Images.{IsMember, HasJust, Gains, Loses, HasParent, Image};
 
 use crate::axis::Axis;
@@ -16,8 +16,8 @@ use px_base::{Bits, Memory};
 use std::alloc::Global;
 
 /// The automaton that reads one or more labels from state 1 on.
-fn far_program(alloc: Global) -> Result<Program, Memory>
-    ensures { IfOk result (λ p. p ≡ far_states) }
+fn descendant_program(alloc: Global) -> Result<Program, Memory>
+    ensures { IfOk result (λ p. p ≡ descendant_states) }
 {
     let mut program = Program::new(alloc)?;
     program.push(State::Any(0))?;
@@ -40,7 +40,7 @@ fn insert_children<G: Digraph>(g: &G, n: u32, set: &mut Bits)
 }
 
 /// The children of the members. Each member's children are read once.
-fn near<G: Digraph>(alloc: Global, g: &G, set: &Bits) -> Result<Bits, Memory>
+fn children_of_set<G: Digraph>(alloc: Global, g: &G, set: &Bits) -> Result<Bits, Memory>
     requires { (v : ℕ) → IsTrue (has set.now.members v) → IsSome (G.label_at g.now v) }
     ensures size { IfOk result (λ b. b.size ≡ G.span g.now) }
     ensures image { IfOk result (λ b. HasJust b.members (HasParent (G.edge g.now) (IsMember set.now.members))) }
@@ -140,13 +140,13 @@ pub(crate) fn remove_passing_children<G: Digraph>(
     Ok(())
 }
 
-/// What is reached from a member by one or more edges.
-fn far<G: Digraph>(alloc: Global, g: &G, set: &Bits) -> Result<Bits, Memory>
+/// What one or more edges lead to from a member.
+fn descendants_of_set<G: Digraph>(alloc: Global, g: &G, set: &Bits) -> Result<Bits, Memory>
     requires { (v : ℕ) → IsTrue (has set.now.members v) → IsSome (G.label_at g.now v) }
     ensures size { IfOk result (λ b. b.size ≡ G.span g.now) }
     ensures image { IfOk result (λ b. HasJust b.members (Image (Reaches (G.edge g.now)) (IsMember set.now.members))) }
 {
-    let program = far_program(alloc)?;
+    let program = descendant_program(alloc)?;
     let places = set.list(alloc)?;
     search(alloc, g, &program, 1, &places)
 }
@@ -165,9 +165,9 @@ pub(crate) fn along<G: Digraph>(
     ensures image { IfOk result (λ b. HasJust b.members (Image (Along (G.edge g.now) (axis_of axis)) (IsMember set.now.members))) }
 {
     match axis {
-        Axis::Child => near(alloc, g, set),
-        Axis::Below => far(alloc, g, set),
-        Axis::Parent => near(alloc, &Mirror { graph: g }, set),
-        Axis::Above => far(alloc, &Mirror { graph: g }, set),
+        Axis::Child => children_of_set(alloc, g, set),
+        Axis::Below => descendants_of_set(alloc, g, set),
+        Axis::Parent => children_of_set(alloc, &Mirror { graph: g }, set),
+        Axis::Above => descendants_of_set(alloc, &Mirror { graph: g }, set),
     }
 }

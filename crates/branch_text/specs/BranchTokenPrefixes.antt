@@ -21,8 +21,8 @@ mark_at b =
 
 -- behind the first byte of an axis: the far axis where that byte comes twice
 abbrev pub axis_prefix : ℕ → Axis → Axis → List ℕ → Token × List ℕ
-axis_prefix k near far [] = (axis near, [])
-axis_prefix k near far (b ∷ bs) = if b == k then (axis far, bs) else (axis near, b ∷ bs)
+axis_prefix k single double [] = (axis single, [])
+axis_prefix k single double (b ∷ bs) = if b == k then (axis double, bs) else (axis single, b ∷ bs)
 
 -- the token at the front that is no word
 abbrev pub sign_prefix : List ℕ → Option (Token × List ℕ)

@@ -30,12 +30,12 @@ fn mark_at(byte: u8) -> Option<Token>
 }
 
 /// The token of an axis whose first byte is this one, with what follows it: the far axis where the byte comes twice.
-fn axis_prefix(byte: u8, near: Axis, far: Axis, rest: &[u8]) -> (Token, &[u8])
-    ensures { (token_of result.0, result.1.now) ≡ axis_prefix byte (axis_of near) (axis_of far) rest.now }
+fn axis_prefix(byte: u8, single: Axis, double: Axis, rest: &[u8]) -> (Token, &[u8])
+    ensures { (token_of result.0, result.1.now) ≡ axis_prefix byte (axis_of single) (axis_of double) rest.now }
 {
     match rest.split_first() {
-        Some((next, after)) if *next == byte => (Token::Along(far), after),
-        _ => (Token::Along(near), rest),
+        Some((next, after)) if *next == byte => (Token::Along(double), after),
+        _ => (Token::Along(single), rest),
     }
 }
 

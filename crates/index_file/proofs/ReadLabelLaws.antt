@@ -51,8 +51,8 @@ pub too_many : (label : List ℕ) (most : ℕ) (old : List (List ℕ)) → is_se
 too_many label most old unseen many = (let on = le-leb most (length old) many in rw (unseen, on) refl)
 
 -- a word that is the text of a label spells it
-pub numbered_near : (word : List ℕ) (most : ℕ) (texts : List (List ℕ)) (l : ℕ) → AreReadLabels texts → slice_get texts l ≡ Some word → IsNumbered word most texts texts l
-numbered_near word most texts l a e = record {
+pub numbered_hinted : (word : List ℕ) (most : ℕ) (texts : List (List ℕ)) (l : ℕ) → AreReadLabels texts → slice_get texts l ≡ Some word → IsNumbered word most texts texts l
+numbered_hinted word most texts l a e = record {
   label = word;
   spelled = a.spelled l word e;
   interned = interned_old word most texts texts l (position-at texts l word a.once e) refl;

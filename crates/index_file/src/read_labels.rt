@@ -156,9 +156,9 @@ impl ReadLabels {
         ensures err { OnErr result (self.new ≡ self.old) }
     {
         let (a, b) = last_bytes(word);
-        let near = self.recent.get(a, b);
-        if self.is_at(near, word) {
-            return Ok(near);
+        let hinted = self.recent.get(a, b);
+        if self.is_at(hinted, word) {
+            return Ok(hinted);
         }
         match self.read(alloc, word, most) {
             Ok(l) => {

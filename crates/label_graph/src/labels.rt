@@ -113,9 +113,9 @@ impl Labels {
         ensures place { result ≡ position (bytes_eq t.now) (entries self.old) }
     {
         let (a, b) = last_bytes(t);
-        let near = self.recent.get(a, b);
-        if self.is_at(near, t) {
-            return Some(near);
+        let hinted = self.recent.get(a, b);
+        if self.is_at(hinted, t) {
+            return Some(hinted);
         }
         let l = self.entry(t)?;
         self.recent.put(a, b, l);

@@ -36,7 +36,7 @@ use Rattle.keyed_quotient.specs.Changes.{KeyedChanges}
 use Rattle.level_spec.specs.Keyed.{IsKeyed}
 use Rattle.ak_family.specs.Families.{IsKeyedFamily, HaveSupportedKeys}
 use Rattle.ak_family.specs.LevelDrafts.{blocks_shown, key_shown}
-use Rattle.level_update.specs.LevelCosts.{move_cost, near_cost, most_draft_steps}
+use Rattle.level_update.specs.LevelCosts.{move_cost, affected_cost, most_draft_steps}
 use Rattle.level_update.specs.FamilyDrafts.{FamilyFits, most_steps}
 use Rattle.level_update.specs.MovedLevels.{AreMoved}
 use Rattle.level_update.specs.LevelEffects.{AreKeyedBases, AreLevelsBefore, AreLevelsDrafted, HasOwnKey, lone_nodes, keeps_keys}
@@ -198,7 +198,7 @@ still_moved which g g2 e ends f d w is still before keyed drafted = record {
 
 -- the nodes that get another label are ends, and cost no more to move than is near the ends
 pub relabels_most : (which : Sides) (a : Pending) (e : EffectLists) (ends : List ℕ) (k : ℕ) → IsNew a.change a.before → IsGraph a.before → IsGraph (graph_after a)
-    → AreEffects a.before (graph_after a) e → ends ≡ ends_of which (graph_after a) e → sum_by (move_cost a) e.relabelled ≤ 3 * near_cost which a (has ends) k
+    → AreEffects a.before (graph_after a) e → ends ≡ ends_of which (graph_after a) e → sum_by (move_cost a) e.relabelled ≤ 3 * affected_cost which a (has ends) k
 relabels_most which a e ends k new before left w is =
     let g2 = graph_after a in
     ends_most which a ends k e.relabelled
@@ -242,7 +242,7 @@ total_steps k part all effects old found new less few start spent = (let more = 
 
 -- what is within some edges of some of the ends costs no more than what is within them of all
 near_less : (which : Sides) (a : Pending) (some ends : ℕ → Bool) (k : ℕ) → IsGraph (graph_after a) → ((n : ℕ) → some n ≡ true → ends n ≡ true)
-    → near_cost which a some k ≤ near_cost which a ends k
+    → affected_cost which a some k ≤ affected_cost which a ends k
 near_less which a some ends k graph among =
     let s = shape_of (graph_after a) in
     let wider = weight_within s (affected which s some k) (affected which s ends k)
@@ -261,10 +261,10 @@ change_steps which a b listed k old found new same graph among start spent =
     let ends : ℕ → Bool = ends_by which a.change a.before in
     let effects : ℕ = length a.change + 2 * weight (shape_of a.before) (is_gone a.before (graph_after a)) in
     let once = once_counted which (cost a.change a.before (affected which (shape_of (graph_after a)) ends k)) in
-    let few : effects ≤ 2 * near_cost which a ends k = omega (arith, once) in
+    let few : effects ≤ 2 * affected_cost which a ends k = omega (arith, once) in
     let first : found ≤ old + effects = omega (arith, start) in
     subst (λ (p : Pending). new ≤ old + most_steps which p.before p.change k) same
-    (total_steps k (near_cost which a (has listed) k) (near_cost which a ends k) effects old found new (near_less which a (has listed) ends k graph among) few first spent)
+    (total_steps k (affected_cost which a (has listed) k) (affected_cost which a ends k) effects old found new (near_less which a (has listed) ends k graph among) few first spent)
 
 -- where the effects aren't found
 pub change_start : (which : Sides) (a b : Pending) (k old found : ℕ) → a ≡ b → IsGraph (graph_after a)

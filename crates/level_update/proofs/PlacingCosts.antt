@@ -22,7 +22,7 @@ use Rattle.affected_nodes.specs.ReadCosts.{side_count}
 use Rattle.affected_nodes.proofs.SearchCosts.{StartsAt, below, within_below, within_live}
 use Rattle.level_spec.proofs.AffectedWeights.{affected_weight}
 use Rattle.one_spec.proofs.Sums.{sum_listed}
-use Rattle.level_update.specs.LevelCosts.{move_cost, place_cost, near_cost, most_move_steps}
+use Rattle.level_update.specs.LevelCosts.{move_cost, place_cost, affected_cost, most_move_steps}
 
 -- a node is placed for no more than a round there, for each side that counts
 place_round : (which : Sides) (a : Pending) (n : ℕ) → place_cost which a n ≤ side_count which * round_cost a.before (graph_after a) n
@@ -70,7 +70,7 @@ nodes_most which m each a ends i k nodes few w l within =
 
 -- the nodes within i edges, of those within k edges
 pub level_most : (which : Sides) (a : Pending) (ends : List ℕ) (i k : ℕ) (nodes : List ℕ) → StartsAt a (has ends)
-    → Lists (affected which (shape_of (graph_after a)) (has ends) i) nodes → i ≤ k → sum_by (place_cost which a) nodes ≤ 3 * near_cost which a (has ends) k
+    → Lists (affected which (shape_of (graph_after a)) (has ends) i) nodes → i ≤ k → sum_by (place_cost which a) nodes ≤ 3 * affected_cost which a (has ends) k
 level_most which a ends i k nodes w l within =
     let most = nodes_most which (side_count which) (place_cost which a) a ends i k nodes (place_round which a) w l within in
     omega (arith, most)
@@ -82,7 +82,7 @@ once_counted sides.Both x = (let e : x ≤ 2 * x = omega arith in e)
 
 -- some of the ends are moved
 pub ends_most : (which : Sides) (a : Pending) (ends : List ℕ) (k : ℕ) (nodes : List ℕ) → StartsAt a (has ends) → IsDistinct nat_eq nodes
-    → ((n : ℕ) → has nodes n ≡ true → has ends n ≡ true) → sum_by (move_cost a) nodes ≤ 3 * near_cost which a (has ends) k
+    → ((n : ℕ) → has nodes n ≡ true → has ends n ≡ true) → sum_by (move_cost a) nodes ≤ 3 * affected_cost which a (has ends) k
 ends_most which a ends k nodes w once among =
     let s = shape_of (graph_after a) in
     let listed = sum_listed s.size (affected which s (has ends) 0) (move_cost a) nodes once (λ n h.
@@ -101,8 +101,8 @@ total_most w k i before now within cost = (let all = mul-le i k (3 * w) within i
 
 -- what is spent is within the bound of all levels
 pub spent_most : (which : Sides) (a : Pending) (ends : List ℕ) (k i before now : ℕ) → i ≤ k
-    → now ≤ before + near_cost which a (has ends) k + i * (3 * near_cost which a (has ends) k)
+    → now ≤ before + affected_cost which a (has ends) k + i * (3 * affected_cost which a (has ends) k)
     → (len m : ℕ) → len ≡ k + 1 → len ≡ m + 1 → now ≤ before + most_move_steps which a (has ends) m
 spent_most which a ends k i before now within cost len m count e =
     let same : k ≡ m = omega (arith, count, e) in
-    subst (λ m. now ≤ before + most_move_steps which a (has ends) m) same (total_most (near_cost which a (has ends) k) k i before now within cost)
+    subst (λ m. now ≤ before + most_move_steps which a (has ends) m) same (total_most (affected_cost which a (has ends) k) k i before now within cost)

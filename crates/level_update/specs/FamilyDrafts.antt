@@ -11,7 +11,7 @@ use Rattle.keyed_quotient.specs.KeyedQuotients.{KeyedQuotient}
 use Rattle.keyed_quotient.specs.Changes.{KeyedChanges}
 use Rattle.ak_family.specs.Families.{level_at}
 use Rattle.ak_family.specs.LevelDrafts.{changes_at}
-use Rattle.level_update.specs.LevelCosts.{near_cost}
+use Rattle.level_update.specs.LevelCosts.{affected_cost}
 
 -- each level is that of the graph
 abbrev pub FamilyFits : Sides → Graph → List KeyedQuotient → Type 0
@@ -24,4 +24,4 @@ ShownFit sides g f d = (i : ℕ) → i < length f → FitsLevel sides g i (settl
 -- how many steps a change may take, where levels up to k are kept: its effects are found, and nodes within k edges of
 -- its ends move
 abbrev pub most_steps : Sides → Graph → List Step → ℕ → ℕ
-most_steps sides g c k = 8 * (k + 1) * near_cost sides (record { before = g; change = c }) (ends_by sides c g) k
+most_steps sides g c k = 8 * (k + 1) * affected_cost sides (record { before = g; change = c }) (ends_by sides c g) k

@@ -23,14 +23,14 @@ abbrev pub place_cost : Sides → Pending → ℕ → ℕ
 place_cost sides a n = key_cost sides a n + move_cost a n
 
 -- for each side that counts, what the change costs at the nodes within so many edges of its ends
-abbrev pub near_cost : Sides → Pending → (ℕ → Bool) → ℕ → ℕ
-near_cost sides a ends k = side_count sides * cost a.change a.before (affected sides (shape_of (graph_after a)) ends k)
+abbrev pub affected_cost : Sides → Pending → (ℕ → Bool) → ℕ → ℕ
+affected_cost sides a ends k = side_count sides * cost a.change a.before (affected sides (shape_of (graph_after a)) ends k)
 
 -- The most steps that the affected nodes take at all levels up to k: as many as the change costs at those within k
 -- edges, to find them, and three times as many at each level but the lowest.
 abbrev pub most_move_steps : Sides → Pending → (ℕ → Bool) → ℕ → ℕ
-most_move_steps sides a ends k = (3 * k + 1) * near_cost sides a ends k
+most_move_steps sides a ends k = (3 * k + 1) * affected_cost sides a ends k
 
 -- The nodes that get another label take three times as many more at each level.
 abbrev pub most_draft_steps : Sides → Pending → (ℕ → Bool) → ℕ → ℕ
-most_draft_steps sides a ends k = (6 * k + 4) * near_cost sides a ends k
+most_draft_steps sides a ends k = (6 * k + 4) * affected_cost sides a ends k

@@ -20,7 +20,7 @@ use Rattle.quotient_draft.specs.Drafts.{with_added}
 use Rattle.quotient_draft.specs.Basis.{AreLeastFree}
 use Rattle.one_merge.specs.MergeTests.{AreMergeable, AreNotMergeable}
 use Rattle.one_merge.specs.ShownMerges.{IsMerging}
-use Rattle.one_merge.proofs.MergedNeighbours.{candidates_near}
+use Rattle.one_merge.proofs.MergedNeighbours.{candidates_by_parent}
 
 -- the order of the two makes no difference
 pub mergeable_swap : (p : List (Option ℕ)) (labels : ℕ → Option ℕ) (adjacent : ℕ → ℕ → Bool) (a b : ℕ) → AreMergeable p labels adjacent a b → AreMergeable p labels adjacent b a
@@ -108,17 +108,17 @@ unmergeable_by p labels adjacent a x ne parent here children b = λ s v can. eli
   | inr k ↦ children b (v.into x b k) s v can
 ]
 
-pub none_mergeable_near : (o : Option ℕ) (p : List (Option ℕ)) (labels : ℕ → Option ℕ) (support base_support : ℕ → ℕ → ℕ) (a x : ℕ) (ys drafted : List ℕ) → x ≢ a
+pub none_mergeable_by_parent : (o : Option ℕ) (p : List (Option ℕ)) (labels : ℕ → Option ℕ) (support base_support : ℕ → ℕ → ℕ) (a x : ℕ) (ys drafted : List ℕ) → x ≢ a
     → IsTrue (nat_lt 0 (support x a)) → AreNotMergeable p labels (λ y z. nat_lt 0 (support y z)) a x → Lists (λ b. nat_lt 0 (base_support x b)) ys
     → ((b : ℕ) → has drafted b ≡ false → support x b ≡ base_support x b) → ((b : ℕ) → IsTrue (has ys b) → AreNotMergeable p labels (λ y z. nat_lt 0 (support y z)) a b)
     → IfNone o ((b : ℕ) → IsTrue (has drafted b) → AreNotMergeable p labels (λ y z. nat_lt 0 (support y z)) a b)
     → IfNone o ((b : ℕ) → AreNotMergeable p labels (λ y z. nat_lt 0 (support y z)) a b)
-none_mergeable_near None p labels support base_support a x ys drafted ne parent here children same in_base among =
+none_mergeable_by_parent None p labels support base_support a x ys drafted ne parent here children same in_base among =
     unmergeable_by p labels (λ y z. nat_lt 0 (support y z)) a x ne parent here (λ b j. elim (cases_Bool (has drafted b)) [
       | inl there ↦ among b there
       | inr off ↦ in_base b (children.members b ∙ sym (ap (nat_lt 0) (same b off)) ∙ j)
     ])
-none_mergeable_near (Some c) p labels support base_support a x ys drafted ne parent here children same in_base among = among
+none_mergeable_by_parent (Some c) p labels support base_support a x ys drafted ne parent here children same in_base among = among
 
 pub if_none : {X : Type 0} (o : Option X) (P : Type 0) → o ≡ None → IfNone o P → P
 if_none None P e h = h
@@ -190,7 +190,7 @@ merged_more s first p p2 labels labels2 adjacent adjacent2 merge_candidates rest
     record {
       merges = one_more p p2 a b m.merges can merged;
       viewed = viewed;
-      candidates_are = candidates_near s p p2 labels adjacent a b (λ c. ((c ≡ a) ⊎ (c ≡ b)) ⊎ IsTrue (has rest c)) (λ c. IsTrue (has after c)) m.viewed merged can.apart
+      candidates_are = candidates_by_parent s p p2 labels adjacent a b (λ c. ((c ≡ a) ⊎ (c ≡ b)) ⊎ IsTrue (has rest c)) (λ c. IsTrue (has after c)) m.viewed merged can.apart
           (rests m.viewed m.candidates_are) own children (λ c ne h. elim h [
             | inl (inl e) ↦ ap (has after) e ∙ own
             | inl (inr e) ↦ absurd (ne e)

@@ -69,9 +69,9 @@ could_before s p p2 a b c d st m nc nd oc od can =
     ]
 
 -- After a merge the merged block is a merge candidate, and so are the children that the block had which is gone.
-pub candidates_near : (s : Shape) (p p2 : List (Option ℕ)) (labels : ℕ → Option ℕ) (adjacent : ℕ → ℕ → Bool) (a b : ℕ) (among after : ℕ → Type 0) → IsViewed s p labels adjacent
+pub candidates_by_parent : (s : Shape) (p p2 : List (Option ℕ)) (labels : ℕ → Option ℕ) (adjacent : ℕ → ℕ → Bool) (a b : ℕ) (among after : ℕ → Type 0) → IsViewed s p labels adjacent
     → IsMerged a b p p2 → a ≢ b → AreMergeCandidates s p among → after a → ((c : ℕ) → IsTrue (adjacent b c) → after c) → ((c : ℕ) → c ≢ b → among c → after c) → AreMergeCandidates s p2 after
-candidates_near s p p2 labels adjacent a b among after v m apart h here children rest = record {
+candidates_by_parent s p p2 labels adjacent a b among after v m apart h here children rest = record {
   one = λ c d can. elim (eqb_tells c a) [
     | inl e ↦ inl (subst after (sym e.1) here)
     | inr nc ↦ elim (eqb_tells d a) [

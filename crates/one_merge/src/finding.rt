@@ -264,8 +264,8 @@ fn find_mergeable_lone(
     Ok(find_among(base, draft, a, list))
 }
 
-// A block that can be merged with a block, among another parent of it and the children of that one.
-fn find_mergeable_near(
+// A block that can be merged with a block, among another parent of it and the children of that parent.
+fn find_mergeable_by_parent(
     base: &Summary,
     draft: &Draft,
     kept: &mut KeptBlocks,
@@ -313,7 +313,7 @@ pub(crate) fn find_mergeable(
         return Ok(None);
     }
     match other_parent(base, draft, a) {
-        Some(x) => Ok(find_mergeable_near(base, draft, kept, a, x)),
+        Some(x) => Ok(find_mergeable_by_parent(base, draft, kept, a, x)),
         None => find_mergeable_lone(base, draft, parentless, kept, a, list),
     }
 }

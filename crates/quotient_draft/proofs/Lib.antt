@@ -16,5 +16,5 @@ mod Noted
 mod SupportLists
 mod Forgotten
 mod Touched
-mod Nearest
+mod NextBlocks
 mod ShownMembers

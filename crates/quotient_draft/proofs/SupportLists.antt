@@ -33,9 +33,9 @@ settle true false false h = sym (h refl)
 
 -- what passes p is among the members of two lists, the first of which has just what passes q, and the second all at which the
 -- tests differ
-pub near_lists : (p q : ℕ → Bool) (base drafted set kept : List ℕ) → Lists q base → ((a : ℕ) → has drafted a ≡ false → p a ≡ q a) → IsStrictlyIncreasing set
+pub kept_lists : (p q : ℕ → Bool) (base drafted set kept : List ℕ) → Lists q base → ((a : ℕ) → has drafted a ≡ false → p a ≡ q a) → IsStrictlyIncreasing set
     → ((a : ℕ) → has set a ≡ has (base ++ drafted) a) → kept ≡ filter p set → Lists p kept
-near_lists p q base drafted set kept l other rising same e = record {
+kept_lists p q base drafted set kept l other rising same e = record {
   once = sorted_once kept (sorted_from_strictly_increasing kept (subst IsStrictlyIncreasing (sym e) (IsStrictlyIncreasing-filter p set rising)));
   members = λ n.
       ap (λ xs. has xs n) e ∙ any-filter_same (nat_eq n) p (p n) (λ k t. ap p (sym (number_is n k t))) set
@@ -43,8 +43,8 @@ near_lists p q base drafted set kept l other rising same e = record {
       ∙ settle (p n) (q n) (has drafted n) (other n);
 }
 
-pub near_rising : (p : ℕ → Bool) (set kept : List ℕ) → IsStrictlyIncreasing set → kept ≡ filter p set → IsStrictlyIncreasing kept
-near_rising p set kept rising e = subst IsStrictlyIncreasing (sym e) (IsStrictlyIncreasing-filter p set rising)
+pub kept_rising : (p : ℕ → Bool) (set kept : List ℕ) → IsStrictlyIncreasing set → kept ≡ filter p set → IsStrictlyIncreasing kept
+kept_rising p set kept rising e = subst IsStrictlyIncreasing (sym e) (IsStrictlyIncreasing-filter p set rising)
 
 -- nothing passes
 pub lists_none : (p : ℕ → Bool) → ((n : ℕ) → p n ≡ false) → Lists p []

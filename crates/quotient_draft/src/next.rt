@@ -50,7 +50,7 @@ fn next_parent_in(
 {
     let mut found = next;
     for i in 0..blocks.len() {
-        found = nearer_parent(base, changed, blocks[i], b, from, found);
+        found = lesser_parent(base, changed, blocks[i], b, from, found);
     }
     found
 }
@@ -68,13 +68,13 @@ fn next_child_in(
 {
     let mut found = next;
     for i in 0..blocks.len() {
-        found = nearer_child(base, changed, a, blocks[i], from, found);
+        found = lesser_child(base, changed, a, blocks[i], from, found);
     }
     found
 }
 
-// What was found, or `a` where that is nearer and has support to `b` as shown.
-fn nearer_parent(
+// What was found, or `a` where that is less and has support to `b` as shown.
+fn lesser_parent(
     base: &Summary,
     changed: &Changed,
     a: u32,
@@ -84,7 +84,7 @@ fn nearer_parent(
 ) -> Option<u32>
     ensures { LooksThrough (λ x. nat_eq x a) (λ x. is_supported (with_supports base.now.supports changed.now) x b) from found result }
 {
-    if !is_nearer(found, from, a) {
+    if !is_lesser(found, from, a) {
         return found;
     }
     if changed.get(base, a, b) == 0 {
@@ -93,8 +93,8 @@ fn nearer_parent(
     Some(a)
 }
 
-// What was found, or `b` where that is nearer and `a` has support to it as shown.
-fn nearer_child(
+// What was found, or `b` where that is less and `a` has support to it as shown.
+fn lesser_child(
     base: &Summary,
     changed: &Changed,
     a: u32,
@@ -104,7 +104,7 @@ fn nearer_child(
 ) -> Option<u32>
     ensures { LooksThrough (λ x. nat_eq x b) (λ x. is_supported (with_supports base.now.supports changed.now) a x) from found result }
 {
-    if !is_nearer(found, from, b) {
+    if !is_lesser(found, from, b) {
         return found;
     }
     if changed.get(base, a, b) == 0 {
@@ -114,7 +114,7 @@ fn nearer_child(
 }
 
 // Whether a block is at least `from`, and less than what was found, if anything was.
-fn is_nearer(found: Option<u32>, from: u32, a: u32) -> bool
+fn is_lesser(found: Option<u32>, from: u32, a: u32) -> bool
     ensures { result ≡ (nat_le from a && is_below found a) }
 {
     from <= a && comes_before(found, a)

@@ -3,7 +3,7 @@ use Rattle.std.specs.List.{sum_by}
 use Rattle.graph_spec.specs.Members.{has}
 use Rattle.graph_update.specs.PendingChanges.{graph_after}
 use Rattle.graph_effects.proofs.EffectEnds.{ends_live}
-use Rattle.level_update.specs.LevelCosts.{move_cost, near_cost}
+use Rattle.level_update.specs.LevelCosts.{move_cost, affected_cost}
 use Rattle.level_update.specs.LevelEffects.{lone_nodes}
 use Rattle.level_update.proofs.EffectLevels.{levels_moving}
 use Rattle.level_update.proofs.EffectTargets.{lone_ends, still_moved, relabels_most}
@@ -15,7 +15,7 @@ returns-in_err-draft_levels-clause-cost g c = λ k e.
     let a = c.args.after.now in
     let f = c.args.effects.now in
     let each = relabels_most c.args.sides a f c.args.ends.now k c.created-known.ensures.new c.created-known.ensures.before c.created-known.ensures.after c.requires.effects c.requires.ends in
-    draft_most (length c.args.family.now) k (sum_by (move_cost a) f.relabelled) (near_cost c.args.sides a (has c.args.ends.now) k) c.args.steps.now c.draft_levels.new.steps
+    draft_most (length c.args.family.now) k (sum_by (move_cost a) f.relabelled) (affected_cost c.args.sides a (has c.args.ends.now) k) c.args.steps.now c.draft_levels.new.steps
     c.draft_levels.new.steps e each c.draft_levels.ensures.cost (omega arith)
 
 pub returns-then-keeps_keys-clause-moved : goal.returns-then-keeps_keys-clause-moved
@@ -28,7 +28,7 @@ returns-then-keeps_keys-clause-cost g c = λ k e.
     let a = c.args.after.now in
     let f = c.args.effects.now in
     let each = relabels_most c.args.sides a f c.args.ends.now k c.created-known.ensures.new c.created-known.ensures.before c.created-known.ensures.after c.requires.effects c.requires.ends in
-    draft_most (length c.args.family.now) k (sum_by (move_cost a) f.relabelled) (near_cost c.args.sides a (has c.args.ends.now) k) c.args.steps.now c.draft_levels.new.steps
+    draft_most (length c.args.family.now) k (sum_by (move_cost a) f.relabelled) (affected_cost c.args.sides a (has c.args.ends.now) k) c.args.steps.now c.draft_levels.new.steps
     c.draft_levels.new.steps e each c.draft_levels.ensures.cost (omega arith)
 
 pub move_affected-requires-clause-live : goal.move_affected-requires-clause-live
@@ -46,7 +46,7 @@ returns-in_err-move_affected-clause-cost g c = λ k e.
     let a = c.args.after.now in
     let f = c.args.effects.now in
     let each = relabels_most c.args.sides a f c.args.ends.now k c.created-known.ensures.new c.created-known.ensures.before c.created-known.ensures.after c.requires.effects c.requires.ends in
-    draft_most (length c.args.family.now) k (sum_by (move_cost a) f.relabelled) (near_cost c.args.sides a (has c.args.ends.now) k) c.args.steps.now c.draft_levels.new.steps
+    draft_most (length c.args.family.now) k (sum_by (move_cost a) f.relabelled) (affected_cost c.args.sides a (has c.args.ends.now) k) c.args.steps.now c.draft_levels.new.steps
     c.move_affected.new.steps e each c.draft_levels.ensures.cost (c.move_affected.ensures.cost k e)
 
 pub returns-clause-cost : goal.returns-clause-cost
@@ -54,5 +54,5 @@ returns-clause-cost g c = λ k e.
     let a = c.args.after.now in
     let f = c.args.effects.now in
     let each = relabels_most c.args.sides a f c.args.ends.now k c.created-known.ensures.new c.created-known.ensures.before c.created-known.ensures.after c.requires.effects c.requires.ends in
-    draft_most (length c.args.family.now) k (sum_by (move_cost a) f.relabelled) (near_cost c.args.sides a (has c.args.ends.now) k) c.args.steps.now c.draft_levels.new.steps
+    draft_most (length c.args.family.now) k (sum_by (move_cost a) f.relabelled) (affected_cost c.args.sides a (has c.args.ends.now) k) c.args.steps.now c.draft_levels.new.steps
     c.move_affected.new.steps e each c.draft_levels.ensures.cost (c.move_affected.ensures.cost k e)

@@ -3,7 +3,7 @@ use Rattle.graph_spec.specs.Members.{has}
 use Rattle.bisim_spec.specs.IndexGraphs.{support_at}
 use Rattle.quotient_draft.specs.Drafts.{Drafted, with_supports}
 use Rattle.quotient_draft.specs.Nexts.{IsNext}
-use Rattle.quotient_draft.proofs.Nearest.{next_none, next_near}
+use Rattle.quotient_draft.proofs.NextBlocks.{next_none, next_of_both}
 use Rattle.quotient_draft.proofs.draft.Draft.next_parent.Goals as goal
 
 pub returns : goal.returns
@@ -16,7 +16,7 @@ returns c =
     record {
       next =
           subst (λ (s : List ((ℕ × ℕ) × ℕ)). IsNext (λ a. nat_lt 0 (support_at (with_supports t s) a b)) from c.next_parent_in.result) (ap (λ (d : Drafted). d.supports) c.self.view_is)
-          (next_near shown (λ a. nat_lt 0 (support_at t a b)) base c.parents.result.now from c.next_parent_in.result c.base_parents.ensures
+          (next_of_both shown (λ a. nat_lt 0 (support_at t a b)) base c.parents.result.now from c.next_parent_in.result c.base_parents.ensures
           (λ a h. ap (nat_lt 0) (c.parents.ensures t a h))
           (c.next_parent_in.ensures (λ a. false || has base a) (c.next_parent_in-first.ensures (λ _. false) (next_none shown from))));
     }

@@ -4,7 +4,7 @@ use Rattle.std.proofs.lemmas.Result.{IfOk-weaker}
 use Rattle.graph_spec.specs.Members.{has}
 use Rattle.path_automaton.specs.ProductSteps.{AreEnds}
 use Rattle.branch_expr.proofs.ImageLaws.{far_image}
-use Rattle.branch_expr.proofs.leading.far.Goals as goal
+use Rattle.branch_expr.proofs.leading.descendants_of_set.Goals as goal
 
 pub returns-clause-image : goal.returns-clause-image
 returns-clause-image g c =

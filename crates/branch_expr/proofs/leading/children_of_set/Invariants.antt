@@ -1,6 +1,6 @@
 use Rattle.std.proofs.Common.{◌≡◌, ◌-◌, ◌≤◌}
 use Rattle.branch_expr.proofs.Steps.{LedFrom}
-use Rattle.branch_expr.proofs.leading.near.Given as goal
+use Rattle.branch_expr.proofs.leading.children_of_set.Given as goal
 
 abbrev pub invariant-loop-n : goal.invariant-loop-n
 invariant-loop-n g l = record {

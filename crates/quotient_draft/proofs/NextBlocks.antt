@@ -41,9 +41,9 @@ next_none p from = λ x le. refl
 
 -- What passes p is among the numbers of two lists, the first of which has just what passes q, and the second all at which the
 -- tests differ.
-pub next_near : (p q : ℕ → Bool) (base drafted : List ℕ) (from : ℕ) (o : Option ℕ) → Lists q base → ((a : ℕ) → has drafted a ≡ false → p a ≡ q a)
+pub next_of_both : (p q : ℕ → Bool) (base drafted : List ℕ) (from : ℕ) (o : Option ℕ) → Lists q base → ((a : ℕ) → has drafted a ≡ false → p a ≡ q a)
     → IsNext (λ x. ((false || has base x) || has drafted x) && p x) from o → IsNext p from o
-next_near p q base drafted from o l other = next_as (λ x. ((false || has base x) || has drafted x) && p x) p from o (λ x. ap (λ t. (t || has drafted x) && p x) (l.members x) ∙ found (p x) (q x) (has drafted x) (other x))
+next_of_both p q base drafted from o l other = next_as (λ x. ((false || has base x) || has drafted x) && p x) p from o (λ x. ap (λ t. (t || has drafted x) && p x) (l.members x) ∙ found (p x) (q x) (has drafted x) (other x))
   where
     found : (p q d : Bool) → (d ≡ false → p ≡ q) → ((q || d) && p) ≡ p
     found p true d h = refl
