@@ -1,6 +1,6 @@
 pub mod Sums
 pub mod SplitRounds
-pub mod Goals
+pub mod TargetBlocks
 pub mod Unmoved
 pub mod MergedPairs
 pub mod MergeCandidates

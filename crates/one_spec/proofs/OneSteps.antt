@@ -35,7 +35,7 @@ pub out_of_fewer : (s : Shape) (from from2 : ℕ → Bool) (n : ℕ) → IsShape
 out_of_fewer s from from2 n shape more off = false_from_ne_true (reach s from n) (λ h. both_ways (reach s from2 n) off (reach_wider s shape from from2 more n h))
 
 -- A partition before a change, the same for the nodes that there are after it, and that once it is split.
-pub record Stages (from : ℕ → Bool) (s s2 : Shape) (p p1 p2 : List (Option ℕ)) (made : List ℕ) : Type 0 where
+pub record Stages (from : ℕ → Bool) (s s2 : Shape) (p p1 p2 : List (Option ℕ)) (new_blocks : List ℕ) : Type 0 where
   pub shape : IsShape s
   pub shape2 : IsShape s2
   pub differs : DiffersAt from s s2
@@ -43,29 +43,29 @@ pub record Stages (from : ℕ → Bool) (s s2 : Shape) (p p1 p2 : List (Option �
   pub minimal : Minimal s p
   pub partition : IsPartition s2 p1
   pub keeps : KeepsBlocks s s2 p p1
-  pub split : IsSplitInside s2 (reach s2 from) p1 p2 [] made
+  pub split : IsSplitInside s2 (reach s2 from) p1 p2 [] new_blocks
 
-pub split_stable : (from : ℕ → Bool) (s s2 : Shape) (p p1 p2 : List (Option ℕ)) (made : List ℕ) → Stages from s s2 p p1 p2 made → Stable s2 p2
-split_stable from s s2 p p1 p2 made g = stable_at_end s2 p2 (has []) (λ n. refl) g.split.stable
+pub split_stable : (from : ℕ → Bool) (s s2 : Shape) (p p1 p2 : List (Option ℕ)) (new_blocks : List ℕ) → Stages from s s2 p p1 p2 new_blocks → Stable s2 p2
+split_stable from s s2 p p1 p2 new_blocks g = stable_at_end s2 p2 (has []) (λ n. refl) g.split.stable
 
-same_block : (from : ℕ → Bool) (s s2 : Shape) (p p1 p2 : List (Option ℕ)) (made : List ℕ) → Stages from s s2 p p1 p2 made
+same_block : (from : ℕ → Bool) (s s2 : Shape) (p p1 p2 : List (Option ℕ)) (new_blocks : List ℕ) → Stages from s s2 p p1 p2 new_blocks
     → (n : ℕ) → from n ≡ false → IsNode s2 n → at p1 n ≡ at p n
-same_block from s s2 p p1 p2 made g n off node = g.keeps.kept n (live_before from s s2 g.differs n off node) node
+same_block from s s2 p p1 p2 new_blocks g n off node = g.keeps.kept n (live_before from s s2 g.differs n off node) node
 
 -- out of reach nodes are together as before
-pub split_outside : (from : ℕ → Bool) (s s2 : Shape) (p p1 p2 : List (Option ℕ)) (made : List ℕ) → Stages from s s2 p p1 p2 made
+pub split_outside : (from : ℕ → Bool) (s s2 : Shape) (p p1 p2 : List (Option ℕ)) (new_blocks : List ℕ) → Stages from s s2 p p1 p2 new_blocks
     → SameOutside p p2 (IsOut s2 from)
-split_outside from s s2 p p1 p2 made g = record {
+split_outside from s s2 p p1 p2 new_blocks g = record {
   into = λ x y ox oy t. g.split.same.into x y ox.1 oy.1 (t.0, same x ox ∙ t.1, same y oy ∙ t.2);
   back = λ x y ox oy t. (let k = g.split.same.back x y ox.1 oy.1 t in (k.0, sym (same x ox) ∙ k.1, sym (same y oy) ∙ k.2));
 }
   where
     same : (n : ℕ) → IsOut s2 from n → at p1 n ≡ at p n
-    same n o = same_block from s s2 p p1 p2 made g n (off_target s2 from n o.1) o.0
+    same n o = same_block from s s2 p p1 p2 new_blocks g n (off_target s2 from n o.1) o.0
 
 -- nodes that are together once it is split were together before
-pub split_finer : (from : ℕ → Bool) (s s2 : Shape) (p p1 p2 : List (Option ℕ)) (made : List ℕ) → Stages from s s2 p p1 p2 made → IsFiner s p p2
-split_finer from s s2 p p1 p2 made g = record {
+pub split_finer : (from : ℕ → Bool) (s s2 : Shape) (p p1 p2 : List (Option ℕ)) (new_blocks : List ℕ) → Stages from s s2 p p1 p2 new_blocks → IsFiner s p p2
+split_finer from s s2 p p1 p2 new_blocks g = record {
   within = λ u v nu nv t.
       let k = g.split.within.within u v t in
       let lu = g.partition.only u (together_some p1 u v k) in
@@ -74,65 +74,65 @@ split_finer from s s2 p p1 p2 made g = record {
 }
 
 -- whether the node's block was not made
-abbrev unmade : List ℕ → Option ℕ → Bool
-unmade made None = false
-unmade made (Some b) = not (has made b)
+abbrev not_new : List ℕ → Option ℕ → Bool
+not_new new_blocks None = false
+not_new new_blocks (Some b) = not (has new_blocks b)
 
 -- no target, and in a block that was not made
 abbrev is_still : (ℕ → Bool) → List (Option ℕ) → List ℕ → ℕ → Bool
-is_still from p2 made n = not (from n) && unmade made (at p2 n)
+is_still from p2 new_blocks n = not (from n) && not_new new_blocks (at p2 n)
 
 -- After a split the blocks that were made, and those of the targets, are the merge candidates.
-pub split_candidates : (from : ℕ → Bool) (s s2 : Shape) (p p1 p2 : List (Option ℕ)) (made : List ℕ) → Stages from s s2 p p1 p2 made
-    → AreMergeCandidates s2 p2 (λ b. IsTrue (has made b) ⊎ ((t : ℕ) × IsTrue (from t) × (at p2 t ≡ Some b)))
-split_candidates from s s2 p p1 p2 made g = record {
+pub split_candidates : (from : ℕ → Bool) (s s2 : Shape) (p p1 p2 : List (Option ℕ)) (new_blocks : List ℕ) → Stages from s s2 p p1 p2 new_blocks
+    → AreMergeCandidates s2 p2 (λ b. IsTrue (has new_blocks b) ⊎ ((t : ℕ) × IsTrue (from t) × (at p2 t ≡ Some b)))
+split_candidates from s s2 p p1 p2 new_blocks g = record {
   one = λ a b can. elim (unmarked.one a b can) [
     | inl h ↦ inl (why a can.first.0 can.first.1 (h can.first.0 can.first.1))
     | inr h ↦ inr (why b can.second.0 can.second.1 (h can.second.0 can.second.1))
   ];
 }
   where
-    unmoved : (n a : ℕ) → is_still from p2 made n ≡ true → at p2 n ≡ Some a → IsUnmoved from s2 p p2 n
+    unmoved : (n a : ℕ) → is_still from p2 new_blocks n ≡ true → at p2 n ≡ Some a → IsUnmoved from s2 p p2 n
     unmoved n a h e =
-        let f = and_parts (not (from n)) (unmade made (at p2 n)) h in
+        let f = and_parts (not (from n)) (not_new new_blocks (at p2 n)) h in
         let off : from n ≡ false = not-true (from n) f.0 in
-        let free : has made a ≡ false = not-true (has made a) (sym (ap (unmade made) e) ∙ f.1) in
+        let free : has new_blocks a ≡ false = not-true (has new_blocks a) (sym (ap (not_new new_blocks) e) ∙ f.1) in
         let node : IsNode s2 n = g.split.stable.partition.only n (is_some_at (at p2 n) a e) in
-        elim (g.split.moved_made n a e) [
-          | inl there ↦ absurd (both_ways (has made a) free there)
+        elim (g.split.moved_new n a e) [
+          | inl there ↦ absurd (both_ways (has new_blocks a) free there)
           | inr was ↦ record {
             node = node;
             off = off;
-            same = e ∙ sym was ∙ same_block from s s2 p p1 p2 made g n off node;
+            same = e ∙ sym was ∙ same_block from s s2 p p1 p2 new_blocks g n off node;
           }
         ]
 
-    unmarked : AreMergeCandidates s2 p2 (λ b. (n : ℕ) → at p2 n ≡ Some b → is_still from p2 made n ≡ false)
+    unmarked : AreMergeCandidates s2 p2 (λ b. (n : ℕ) → at p2 n ≡ Some b → is_still from p2 new_blocks n ≡ false)
     unmarked =
-        unmarked_candidates s2 p2 (is_still from p2 made) g.shape2 g.split.stable.partition (λ x y a b mx my hx hy ne can.
-        none_unmoved from s s2 p p2 g.shape g.differs (split_finer from s s2 p p1 p2 made g) g.stable g.minimal x y a b (unmoved x a mx hx) (unmoved y b my hy) hx hy ne can)
+        unmarked_candidates s2 p2 (is_still from p2 new_blocks) g.shape2 g.split.stable.partition (λ x y a b mx my hx hy ne can.
+        none_unmoved from s s2 p p2 g.shape g.differs (split_finer from s s2 p p1 p2 new_blocks g) g.stable g.minimal x y a b (unmoved x a mx hx) (unmoved y b my hy) hx hy ne can)
 
-    why : (b n : ℕ) → at p2 n ≡ Some b → is_still from p2 made n ≡ false → IsTrue (has made b) ⊎ ((t : ℕ) × IsTrue (from t) × (at p2 t ≡ Some b))
+    why : (b n : ℕ) → at p2 n ≡ Some b → is_still from p2 new_blocks n ≡ false → IsTrue (has new_blocks b) ⊎ ((t : ℕ) × IsTrue (from t) × (at p2 t ≡ Some b))
     why b n e h = elim (cases_Bool (from n)) [
       | inl on ↦ inr (n, on, e)
-      | inr off ↦ elim (cases_Bool (has made b)) [
+      | inr off ↦ elim (cases_Bool (has new_blocks b)) [
         | inl there ↦ inl there
-        | inr free ↦ absurd (both_ways (is_still from p2 made n) h
-            (and_from (not (from n)) (unmade made (at p2 n)) (not_from_false (from n) off) (ap (unmade made) e ∙ not_from_false (has made b) free)))
+        | inr free ↦ absurd (both_ways (is_still from p2 new_blocks n) h
+            (and_from (not (from n)) (not_new new_blocks (at p2 n)) (not_from_false (from n) off) (ap (not_new new_blocks) e ∙ not_from_false (has new_blocks b) free)))
       ]
     ]
 
 -- The next partition, after a change of which it isn't known that it keeps the parent blocks of its target. The stages may be those
 -- from fewer nodes than the targets, where the graphs differ at these alone.
-pub one_step_from : (c : List Step) (g : Graph) (from : ℕ → Bool) (p p1 p2 p3 : List (Option ℕ)) (made : List ℕ) → ((n : ℕ) → from n ≡ true → targets c g n ≡ true)
-    → Stages from (shape_of g) (shape_of (after c g)) p p1 p2 made
+pub one_step_from : (c : List Step) (g : Graph) (from : ℕ → Bool) (p p1 p2 p3 : List (Option ℕ)) (new_blocks : List ℕ) → ((n : ℕ) → from n ≡ true → targets c g n ≡ true)
+    → Stages from (shape_of g) (shape_of (after c g)) p p1 p2 new_blocks
     → Merges (shape_of (after c g)) p2 p3 → Minimal (shape_of (after c g)) p3 → (KeepsParents c (after c g) p → ⊥) → OneStep g p c (after c g) p3
-one_step_from c g from p p1 p2 p3 made few stages merges min changes =
+one_step_from c g from p p1 p2 p3 new_blocks few stages merges min changes =
     let s = shape_of g in
     let s2 = shape_of (after c g) in
-    let stable = merges_stable s2 p2 p3 merges (split_stable from s s2 p p1 p2 made stages) in
+    let stable = merges_stable s2 p2 p3 merges (split_stable from s s2 p p1 p2 new_blocks stages) in
     let outside = outside_merges s s2 (IsOut s2 from) p p2 p3 (outside_reach from s s2 stages.shape2 stages.differs)
-    (split_outside from s s2 p p1 p2 made stages) stages.stable stages.minimal merges in
+    (split_outside from s s2 p p1 p2 new_blocks stages) stages.stable stages.minimal merges in
     record {
       made = refl;
       index = record { stable = stable; minimal = min; whole = λ acyclic. acyclic_full s2 p3 stages.shape2 acyclic stable min };

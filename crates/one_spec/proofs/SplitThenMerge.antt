@@ -38,25 +38,25 @@ viewed_supports g block labels support adjacent shape stable labelled supports i
 }
 
 -- the merge candidates after a split
-pub first_candidates : (from : ℕ → Bool) (s s2 : Shape) (p p1 p2 : List (Option ℕ)) (made merge_candidates : List ℕ) → Stages from s s2 p p1 p2 made → AreFirstCandidates from p2 made merge_candidates
+pub first_candidates : (from : ℕ → Bool) (s s2 : Shape) (p p1 p2 : List (Option ℕ)) (new_blocks merge_candidates : List ℕ) → Stages from s s2 p p1 p2 new_blocks → AreFirstCandidates from p2 new_blocks merge_candidates
     → AreMergeCandidates s2 p2 (λ b. IsTrue (has merge_candidates b))
-first_candidates from s s2 p p1 p2 made merge_candidates stages are = record {
-  one = λ a b can. elim ((split_candidates from s s2 p p1 p2 made stages).one a b can) [ inl h ↦ inl (one a h) | inr h ↦ inr (one b h) ];
+first_candidates from s s2 p p1 p2 new_blocks merge_candidates stages are = record {
+  one = λ a b can. elim ((split_candidates from s s2 p p1 p2 new_blocks stages).one a b can) [ inl h ↦ inl (one a h) | inr h ↦ inr (one b h) ];
 }
   where
-    one : (b : ℕ) → IsTrue (has made b) ⊎ ((t : ℕ) × IsTrue (from t) × (at p2 t ≡ Some b)) → IsTrue (has merge_candidates b)
-    one b h = elim h [ inl there ↦ are.made_there b there | inr (t, on, e) ↦ are.targets_there t b on e ]
+    one : (b : ℕ) → IsTrue (has new_blocks b) ⊎ ((t : ℕ) × IsTrue (from t) × (at p2 t ≡ Some b)) → IsTrue (has merge_candidates b)
+    one b h = elim h [ inl there ↦ are.new_there b there | inr (t, on, e) ↦ are.targets_there t b on e ]
 
 -- With the stages of a change and a split, and what merging makes of them: the next partition.
-pub one_step_done : (c : List Step) (g : Graph) (from : ℕ → Bool) (p p1 p2 p3 : List (Option ℕ)) (made merge_candidates : List ℕ) (labels : ℕ → Option ℕ) (support : ℕ → ℕ → ℕ) (adjacent : ℕ → ℕ → Bool)
+pub one_step_done : (c : List Step) (g : Graph) (from : ℕ → Bool) (p p1 p2 p3 : List (Option ℕ)) (new_blocks merge_candidates : List ℕ) (labels : ℕ → Option ℕ) (support : ℕ → ℕ → ℕ) (adjacent : ℕ → ℕ → Bool)
     → ((n : ℕ) → from n ≡ true → targets c g n ≡ true)
-    → Stages from (shape_of g) (shape_of (after c g)) p p1 p2 made → IsLabelled (shape_of (after c g)) p2 labels → AreEdgeCounts (after c g) p2 support
-    → ((x y : ℕ) → adjacent x y ≡ nat_lt 0 (support x y)) → AreFirstCandidates from p2 made merge_candidates
+    → Stages from (shape_of g) (shape_of (after c g)) p p1 p2 new_blocks → IsLabelled (shape_of (after c g)) p2 labels → AreEdgeCounts (after c g) p2 support
+    → ((x y : ℕ) → adjacent x y ≡ nat_lt 0 (support x y)) → AreFirstCandidates from p2 new_blocks merge_candidates
     → ((s : Shape) → IsViewed s p2 labels adjacent → AreMergeCandidates s p2 (λ b. IsTrue (has merge_candidates b)) → IsMergedToEnd s p2 p3)
     → (KeepsParents c (after c g) p → ⊥) → OneStep g p c (after c g) p3
-one_step_done c g from p p1 p2 p3 made merge_candidates labels support adjacent few stages labelled supports is are merge changes =
+one_step_done c g from p p1 p2 p3 new_blocks merge_candidates labels support adjacent few stages labelled supports is are merge changes =
     let s = shape_of g in
     let s2 = shape_of (after c g) in
-    let viewed = viewed_supports (after c g) p2 labels support adjacent stages.shape2 (split_stable from s s2 p p1 p2 made stages) labelled supports is in
-    let done = merge s2 viewed (first_candidates from s s2 p p1 p2 made merge_candidates stages are) in
-    one_step_from c g from p p1 p2 p3 made few stages done.merges done.minimal changes
+    let viewed = viewed_supports (after c g) p2 labels support adjacent stages.shape2 (split_stable from s s2 p p1 p2 new_blocks stages) labelled supports is in
+    let done = merge s2 viewed (first_candidates from s s2 p p1 p2 new_blocks merge_candidates stages are) in
+    one_step_from c g from p p1 p2 p3 new_blocks few stages done.merges done.minimal changes

@@ -112,8 +112,8 @@ pub few_lists : (size : ℕ) (p : ℕ → Bool) (xs : List ℕ) → Lists p xs �
 few_lists size p xs l below = few_listed size p xs l.once (λ n h. let e = sym (l.members n) ∙ h in (below n e, e))
 
 -- distinct blocks, each with a member that passes, are no more than there are such nodes
-pub blocks_few : (size : ℕ) (block : List (Option ℕ)) (made : List ℕ) (p : ℕ → Bool) → IsDistinct nat_eq made
-    → ((b : ℕ) → has made b ≡ true → (n : ℕ) × (n < size) × (p n ≡ true) × (at block n ≡ Some b)) → length made ≤ count_below size p
+pub blocks_few : (size : ℕ) (block : List (Option ℕ)) (new_blocks : List ℕ) (p : ℕ → Bool) → IsDistinct nat_eq new_blocks
+    → ((b : ℕ) → has new_blocks b ≡ true → (n : ℕ) × (n < size) × (p n ≡ true) × (at block n ≡ Some b)) → length new_blocks ≤ count_below size p
 blocks_few size block [] p d h = omega arith
 blocks_few size block (b ∷ bs) p d h =
     let x = h b (first_has b bs) in

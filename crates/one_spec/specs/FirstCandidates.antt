@@ -3,6 +3,6 @@ use Rattle.std.specs.Prelude.{◌≡◌, ℕ, Bool, List, Option, Some, IsTrue}
 use Rattle.graph_spec.specs.Members.{has, at}
 
 -- the blocks that were made, and those of the targets, are among the merge candidates
-pub record AreFirstCandidates (from : ℕ → Bool) (p : List (Option ℕ)) (made merge_candidates : List ℕ) : Type 0 where
-  pub made_there : (b : ℕ) → IsTrue (has made b) → IsTrue (has merge_candidates b)
+pub record AreFirstCandidates (from : ℕ → Bool) (p : List (Option ℕ)) (new_blocks merge_candidates : List ℕ) : Type 0 where
+  pub new_there : (b : ℕ) → IsTrue (has new_blocks b) → IsTrue (has merge_candidates b)
   pub targets_there : (t b : ℕ) → IsTrue (from t) → at p t ≡ Some b → IsTrue (has merge_candidates b)

@@ -32,14 +32,14 @@ pub record SameBut (p p2 : List (Option ℕ)) (but : ℕ → Bool) : Type 0 wher
 -- Where the nodes that are examined go: each is of a group, whose nodes were together and alike; a group goes to a block of
 -- its own that had no members, or stays; it stays only where all nodes of its block are examined, and as the one group of
 -- that block.
-pub record AreTargetBlocks (s : Shape) (p p2 : List (Option ℕ)) (looked : ℕ → Bool) (group : ℕ → ℕ) (goal : ℕ → Option ℕ) : Type 0 where
-  pub only : (n b : ℕ) → goal n ≡ Some b → IsTrue (looked n)
-  pub moved : (n b : ℕ) → goal n ≡ Some b → at p2 n ≡ Some b
-  pub kept : (n : ℕ) → goal n ≡ None → at p2 n ≡ at p n
-  pub fresh : (n m b : ℕ) → goal n ≡ Some b → at p m ≡ Some b → ⊥
-  pub tells : (n m b : ℕ) → goal n ≡ Some b → goal m ≡ Some b → group n ≡ group m
+pub record AreTargetBlocks (s : Shape) (p p2 : List (Option ℕ)) (looked : ℕ → Bool) (group : ℕ → ℕ) (target_block : ℕ → Option ℕ) : Type 0 where
+  pub only : (n b : ℕ) → target_block n ≡ Some b → IsTrue (looked n)
+  pub moved : (n b : ℕ) → target_block n ≡ Some b → at p2 n ≡ Some b
+  pub kept : (n : ℕ) → target_block n ≡ None → at p2 n ≡ at p n
+  pub fresh : (n m b : ℕ) → target_block n ≡ Some b → at p m ≡ Some b → ⊥
+  pub tells : (n m b : ℕ) → target_block n ≡ Some b → target_block m ≡ Some b → group n ≡ group m
   pub together : (n m : ℕ) → IsTrue (looked n) → IsTrue (looked m) → group n ≡ group m → Together p n m
   pub alike : (n m : ℕ) → IsTrue (looked n) → IsTrue (looked m) → group n ≡ group m → MayStayTogether s p n m
-  pub whole : (n m : ℕ) → IsTrue (looked n) → goal n ≡ None → Together p n m → IsTrue (looked m)
-  pub one : (n m : ℕ) → IsTrue (looked n) → IsTrue (looked m) → goal n ≡ None → goal m ≡ None → Together p n m → group n ≡ group m
-  pub left : (n b : ℕ) → goal n ≡ Some b → (m : ℕ) × Together p n m × (goal m ≡ None)
+  pub whole : (n m : ℕ) → IsTrue (looked n) → target_block n ≡ None → Together p n m → IsTrue (looked m)
+  pub one : (n m : ℕ) → IsTrue (looked n) → IsTrue (looked m) → target_block n ≡ None → target_block m ≡ None → Together p n m → group n ≡ group m
+  pub left : (n b : ℕ) → target_block n ≡ Some b → (m : ℕ) × Together p n m × (target_block m ≡ None)

@@ -13,7 +13,7 @@ pub record IsClosed (s : Shape) (inside : ℕ → Bool) : Type 0 where
 
 -- After some rounds: the partition is stable except perhaps at the nodes that are examined next, lies within the first
 -- one, and is the same outside; the blocks that were made have members, all of them inside.
-pub record IsSplitInside (s : Shape) (inside : ℕ → Bool) (first p : List (Option ℕ)) (next made : List ℕ) : Type 0 where
+pub record IsSplitInside (s : Shape) (inside : ℕ → Bool) (first p : List (Option ℕ)) (next new_blocks : List ℕ) : Type 0 where
   pub stable : StableBut s p (has next)
   pub within : IsRefinement first p
   pub same : SameBut first p inside
@@ -21,7 +21,7 @@ pub record IsSplitInside (s : Shape) (inside : ℕ → Bool) (first p : List (Op
   pub next_nodes : (n : ℕ) → IsTrue (has next n) → IsNode s n
   pub next_inside : (n : ℕ) → IsTrue (has next n) → IsTrue (inside n)
   pub next_from : (n : ℕ) → IsTrue (has next n) → (q : ℕ) × IsTrue (inside q) × IsParent s q n
-  pub moved_made : (n b : ℕ) → at p n ≡ Some b → IsTrue (has made b) ⊎ (at first n ≡ Some b)
-  pub made_once : IsDistinct nat_eq made
-  pub made_inside : (b n : ℕ) → IsTrue (has made b) → at p n ≡ Some b → IsTrue (inside n)
-  pub made_some : (b : ℕ) → IsTrue (has made b) → (n : ℕ) × (at p n ≡ Some b)
+  pub moved_new : (n b : ℕ) → at p n ≡ Some b → IsTrue (has new_blocks b) ⊎ (at first n ≡ Some b)
+  pub new_once : IsDistinct nat_eq new_blocks
+  pub new_inside : (b n : ℕ) → IsTrue (has new_blocks b) → at p n ≡ Some b → IsTrue (inside n)
+  pub new_some : (b : ℕ) → IsTrue (has new_blocks b) → (n : ℕ) × (at p n ≡ Some b)

@@ -30,8 +30,8 @@ only_b b c h = (Decides-eqb c b).0 (sym (or_none (nat_eq c b)) ∙ h)
 pub none_once : (xs : List ℕ) → xs ≡ [] → IsDistinct nat_eq xs
 none_once xs e = subst (IsDistinct nat_eq) (sym e) no_numbers
 
-pub blocks_none : (labels : ℕ → Option ℕ) (made : List ℕ) → made ≡ [] → AreBlocks labels made
-blocks_none labels made e = record { once = none_once made e; some = λ b h. absurd (none_listed b (sym (ap (λ xs. has xs b) e) ∙ h)) }
+pub blocks_none : (labels : ℕ → Option ℕ) (new_blocks : List ℕ) → new_blocks ≡ [] → AreBlocks labels new_blocks
+blocks_none labels new_blocks e = record { once = none_once new_blocks e; some = λ b h. absurd (none_listed b (sym (ap (λ xs. has xs b) e) ∙ h)) }
 
 -- a target whose block has no other member
 pub alone_from : (p : List (Option ℕ)) (t own : ℕ) → at p t ≡ Some own → ((n : ℕ) → at p n ≡ Some own → IsTrue (has (t ∷ []) n)) → (n : ℕ) → Together p n t → n ≡ t

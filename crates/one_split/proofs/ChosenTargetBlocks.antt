@@ -11,12 +11,12 @@ use Rattle.one_split.specs.NodeTargetBlocks.{BeginsAt, target_block_at, AreGroup
 use Rattle.graph_spec.proofs.MemberLaws.{has_push}
 use Rattle.one_split.proofs.Chosen.{AreNoted, target_block_cases, target_block_last, target_block_stays, going_none, going_stays, going_goes, noted_stays, noted_goes}
 
-pub record IsChosen (p : List (Option ℕ)) (counts : List (ℕ × ℕ)) (keys : List (List ℕ)) (labels : ℕ → Option ℕ) (target_blocks : List (Option ℕ)) (stays first made : List ℕ) : Type 0 where
+pub record IsChosen (p : List (Option ℕ)) (counts : List (ℕ × ℕ)) (keys : List (List ℕ)) (labels : ℕ → Option ℕ) (target_blocks : List (Option ℕ)) (stays first new_blocks : List ℕ) : Type 0 where
   pub going : AreGroupTargetBlocks p counts keys target_blocks
   pub noted : AreNoted keys target_blocks stays
   pub blocks : TargetBlocksExist target_blocks labels
-  pub distinct : AreBlocks labels made
-  pub from : AreAdded target_blocks first made
+  pub distinct : AreBlocks labels new_blocks
+  pub from : AreAdded target_blocks first new_blocks
 
 append_nil : (xs : List ℕ) → xs ++ [] ≡ xs
 append_nil [] = refl
@@ -25,9 +25,9 @@ append_nil (x ∷ xs) = ap (λ (ys : List ℕ). x ∷ ys) (append_nil xs)
 none_at : (target_blocks : List (Option ℕ)) (k b : ℕ) → target_blocks ≡ [] → target_block_at target_blocks k ≡ Some b → ⊥
 none_at target_blocks k b e h = (let f : target_block_at target_blocks k ≡ None = ap (λ gs. target_block_at gs k) e in let clash : Some b ≡ None = sym h ∙ f in cc)
 
-pub chosen_none : (p : List (Option ℕ)) (counts : List (ℕ × ℕ)) (keys : List (List ℕ)) (labels : ℕ → Option ℕ) (target_blocks : List (Option ℕ)) (stays made : List ℕ) → target_blocks ≡ [] → stays ≡ []
-    → AreBlocks labels made → IsChosen p counts keys labels target_blocks stays made made
-chosen_none p counts keys labels target_blocks stays made e f blocks = record {
+pub chosen_none : (p : List (Option ℕ)) (counts : List (ℕ × ℕ)) (keys : List (List ℕ)) (labels : ℕ → Option ℕ) (target_blocks : List (Option ℕ)) (stays new_blocks : List ℕ) → target_blocks ≡ [] → stays ≡ []
+    → AreBlocks labels new_blocks → IsChosen p counts keys labels target_blocks stays new_blocks new_blocks
+chosen_none p counts keys labels target_blocks stays new_blocks e f blocks = record {
   going = going_none p counts keys target_blocks e;
   noted = record {
     into = λ j own l. absurd (let z = ap length e in omega (arith, l, z));
@@ -44,10 +44,10 @@ chosen_none p counts keys labels target_blocks stays made e f blocks = record {
   };
 }
 
-choose_stays : (p : List (Option ℕ)) (counts : List (ℕ × ℕ)) (keys : List (List ℕ)) (labels labels2 : ℕ → Option ℕ) (target_blocks : List (Option ℕ)) (own : ℕ) (stays stays2 first made made2 : List ℕ)
-    → StaysIf p counts own stays stays2 None → ((c : ℕ) → IsSome (labels c) → IsSome (labels2 c)) → made2 ≡ made
-    → BeginsAt keys (length target_blocks) own → IsChosen p counts keys labels target_blocks stays first made → IsChosen p counts keys labels2 (target_blocks ++ None ∷ []) stays2 first made2
-choose_stays p counts keys labels labels2 target_blocks own stays stays2 first made made2 s keep same ends c = record {
+choose_stays : (p : List (Option ℕ)) (counts : List (ℕ × ℕ)) (keys : List (List ℕ)) (labels labels2 : ℕ → Option ℕ) (target_blocks : List (Option ℕ)) (own : ℕ) (stays stays2 first new_blocks new_blocks2 : List ℕ)
+    → StaysIf p counts own stays stays2 None → ((c : ℕ) → IsSome (labels c) → IsSome (labels2 c)) → new_blocks2 ≡ new_blocks
+    → BeginsAt keys (length target_blocks) own → IsChosen p counts keys labels target_blocks stays first new_blocks → IsChosen p counts keys labels2 (target_blocks ++ None ∷ []) stays2 first new_blocks2
+choose_stays p counts keys labels labels2 target_blocks own stays stays2 first new_blocks new_blocks2 s keep same ends c = record {
   going = going_stays p counts keys target_blocks own stays stays2 c.going c.noted ends s;
   noted = noted_stays keys target_blocks own stays stays2 c.noted ends s.1;
   blocks = record { some = λ k b h. keep b (c.blocks.some k b (before k b h)) };
@@ -70,7 +70,7 @@ choose_stays p counts keys labels labels2 target_blocks own stays stays2 first m
     long : length (target_blocks ++ None ∷ []) ≡ length target_blocks + 1
     long = length-append target_blocks (None ∷ [])
 
-    alike : length made2 ≡ length made
+    alike : length new_blocks2 ≡ length new_blocks
     alike = ap length same
 
     before : (k b : ℕ) → target_block_at (target_blocks ++ None ∷ []) k ≡ Some b → target_block_at target_blocks k ≡ Some b
@@ -79,10 +79,10 @@ choose_stays p counts keys labels labels2 target_blocks own stays stays2 first m
     still : (k b : ℕ) → target_block_at target_blocks k ≡ Some b → target_block_at (target_blocks ++ None ∷ []) k ≡ Some b
     still k b h = target_block_stays target_blocks None k b h
 
-choose_goes : (p : List (Option ℕ)) (counts : List (ℕ × ℕ)) (keys : List (List ℕ)) (labels labels2 : ℕ → Option ℕ) (target_blocks : List (Option ℕ)) (own b : ℕ) (stays stays2 first made made2 : List ℕ)
-    → GoesIf p labels labels2 counts own stays stays2 (Some b) → ((c : ℕ) → IsSome (labels c) → IsSome (labels2 c)) → made2 ≡ made ++ b ∷ []
-    → BeginsAt keys (length target_blocks) own → IsChosen p counts keys labels target_blocks stays first made → IsChosen p counts keys labels2 (target_blocks ++ Some b ∷ []) stays2 first made2
-choose_goes p counts keys labels labels2 target_blocks own b stays stays2 first made made2 g keep added ends c = record {
+choose_goes : (p : List (Option ℕ)) (counts : List (ℕ × ℕ)) (keys : List (List ℕ)) (labels labels2 : ℕ → Option ℕ) (target_blocks : List (Option ℕ)) (own b : ℕ) (stays stays2 first new_blocks new_blocks2 : List ℕ)
+    → GoesIf p labels labels2 counts own stays stays2 (Some b) → ((c : ℕ) → IsSome (labels c) → IsSome (labels2 c)) → new_blocks2 ≡ new_blocks ++ b ∷ []
+    → BeginsAt keys (length target_blocks) own → IsChosen p counts keys labels target_blocks stays first new_blocks → IsChosen p counts keys labels2 (target_blocks ++ Some b ∷ []) stays2 first new_blocks2
+choose_goes p counts keys labels labels2 target_blocks own b stays stays2 first new_blocks new_blocks2 g keep added ends c = record {
   going = going_goes p counts keys target_blocks labels labels2 own b stays stays2 c.going c.noted c.blocks ends g;
   noted = noted_goes keys target_blocks b stays stays2 c.noted g.0;
   blocks = record {
@@ -92,14 +92,14 @@ choose_goes p counts keys labels labels2 target_blocks own b stays stays2 first 
     ];
   };
   distinct = record {
-    once = subst (IsDistinct nat_eq) (sym added) (and_one made b c.distinct.once absent).once;
-    some = λ d h. elim (or_cases (has made d) (nat_eq d b) (sym (is d) ∙ h)) [
+    once = subst (IsDistinct nat_eq) (sym added) (and_one new_blocks b c.distinct.once absent).once;
+    some = λ d h. elim (or_cases (has new_blocks d) (nat_eq d b) (sym (is d) ∙ h)) [
       | inl there ↦ keep d (c.distinct.some d there)
       | inr here ↦ (let same = (Decides-eqb d b).0 here in subst (λ x. IsSome (labels2 x)) (sym same) g.3)
     ];
   };
   from = record {
-    from = λ d h. elim (or_cases (has made d) (nat_eq d b) (sym (is d) ∙ h)) [
+    from = λ d h. elim (or_cases (has new_blocks d) (nat_eq d b) (sym (is d) ∙ h)) [
       | inl there ↦ elim (c.from.from d there) [
         | inl first_has ↦ inl first_has
         | inr (k, l, goes) ↦ inr (k, omega (arith, l, long), target_block_stays target_blocks (Some b) k d goes)
@@ -110,10 +110,10 @@ choose_goes p counts keys labels labels2 target_blocks own b stays stays2 first 
     ];
     more = λ k d h. (let m = c.from.least in omega (arith, m, longer));
     least = (let m = c.from.least in omega (arith, m, longer));
-    keeps = λ d h. is d ∙ or_left (has made d) (nat_eq d b) (c.from.keeps d h);
+    keeps = λ d h. is d ∙ or_left (has new_blocks d) (nat_eq d b) (c.from.keeps d h);
     holds = λ k d h. is d ∙ elim (target_block_cases target_blocks (Some b) k d h) [
-      | inl there ↦ or_left (has made d) (nat_eq d b) (c.from.holds k d there)
-      | inr (here, goes) ↦ or_right (has made d) (nat_eq d b) ((Decides-eqb d b).1 (let same : d ≡ b = cc in same))
+      | inl there ↦ or_left (has new_blocks d) (nat_eq d b) (c.from.holds k d there)
+      | inr (here, goes) ↦ or_right (has new_blocks d) (nat_eq d b) ((Decides-eqb d b).1 (let same : d ≡ b = cc in same))
     ];
   };
 }
@@ -121,23 +121,23 @@ choose_goes p counts keys labels labels2 target_blocks own b stays stays2 first 
     long : length (target_blocks ++ Some b ∷ []) ≡ length target_blocks + 1
     long = length-append target_blocks (Some b ∷ [])
 
-    longer : length made2 ≡ length made + 1
-    longer = ap length added ∙ length-append made (b ∷ [])
+    longer : length new_blocks2 ≡ length new_blocks + 1
+    longer = ap length added ∙ length-append new_blocks (b ∷ [])
 
-    is : (d : ℕ) → has made2 d ≡ (has made d || nat_eq d b)
-    is d = ap (λ xs. has xs d) added ∙ has_push made b d
+    is : (d : ℕ) → has new_blocks2 d ≡ (has new_blocks d || nat_eq d b)
+    is d = ap (λ xs. has xs d) added ∙ has_push new_blocks b d
 
-    absent : has made b ≡ false
-    absent = false_from_ne_true (has made b) (λ t. true≢false (sym (c.distinct.some b t) ∙ ap is_some g.2))
+    absent : has new_blocks b ≡ false
+    absent = false_from_ne_true (has new_blocks b) (λ t. true≢false (sym (c.distinct.some b t) ∙ ap is_some g.2))
 
 pub choose_step : (p : List (Option ℕ)) (counts : List (ℕ × ℕ)) (keys : List (List ℕ)) (labels labels2 : ℕ → Option ℕ) (target_blocks : List (Option ℕ)) (own : ℕ)
-    (stays stays2 first made made2 : List ℕ) (o : Option ℕ) → StaysIf p counts own stays stays2 o → GoesIf p labels labels2 counts own stays stays2 o
-    → ((c : ℕ) → IsSome (labels c) → IsSome (labels2 c)) → made2 ≡ made ++ option_to_list o → BeginsAt keys (length target_blocks) own
-    → IsChosen p counts keys labels target_blocks stays first made → IsChosen p counts keys labels2 (target_blocks ++ o ∷ []) stays2 first made2
-choose_step p counts keys labels labels2 target_blocks own stays stays2 first made made2 None s g keep added ends c =
-    choose_stays p counts keys labels labels2 target_blocks own stays stays2 first made made2 s keep (added ∙ append_nil made) ends c
-choose_step p counts keys labels labels2 target_blocks own stays stays2 first made made2 (Some b) s g keep added ends c =
-    choose_goes p counts keys labels labels2 target_blocks own b stays stays2 first made made2 g keep added ends c
+    (stays stays2 first new_blocks new_blocks2 : List ℕ) (o : Option ℕ) → StaysIf p counts own stays stays2 o → GoesIf p labels labels2 counts own stays stays2 o
+    → ((c : ℕ) → IsSome (labels c) → IsSome (labels2 c)) → new_blocks2 ≡ new_blocks ++ option_to_list o → BeginsAt keys (length target_blocks) own
+    → IsChosen p counts keys labels target_blocks stays first new_blocks → IsChosen p counts keys labels2 (target_blocks ++ o ∷ []) stays2 first new_blocks2
+choose_step p counts keys labels labels2 target_blocks own stays stays2 first new_blocks new_blocks2 None s g keep added ends c =
+    choose_stays p counts keys labels labels2 target_blocks own stays stays2 first new_blocks new_blocks2 s keep (added ∙ append_nil new_blocks) ends c
+choose_step p counts keys labels labels2 target_blocks own stays stays2 first new_blocks new_blocks2 (Some b) s g keep added ends c =
+    choose_goes p counts keys labels labels2 target_blocks own b stays stays2 first new_blocks new_blocks2 g keep added ends c
 
 -- a key that begins with its block has a number, and its first number is the block
 pub begins_long : (keys : List (List ℕ)) (k own : ℕ) (key : List ℕ) → BeginsAt keys k own → slice_get keys k ≡ Some key → 0 < length key

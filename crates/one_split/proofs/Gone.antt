@@ -11,11 +11,11 @@ use Rattle.one_split.specs.NodeTargetBlocks.{target_block_at, HaveGone, ListsChi
 use Rattle.one_split.proofs.ListIndexes.{place_in, place_is}
 
 -- what one move makes of the partition
-pub record OneMoved (n : ℕ) (goal : Option ℕ) (p p2 : List (Option ℕ)) : Type 0 where
-  pub blocks : (m : ℕ) → at p2 m ≡ cond (nat_eq m n && is_some goal) goal (at p m)
+pub record OneMoved (n : ℕ) (target_block : Option ℕ) (p p2 : List (Option ℕ)) : Type 0 where
+  pub blocks : (m : ℕ) → at p2 m ≡ cond (nat_eq m n && is_some target_block) target_block (at p m)
 
-pub record OneListed (s : Shape) (n : ℕ) (goal : Option ℕ) (next next2 : List ℕ) : Type 0 where
-  pub members : (m : ℕ) → has next2 m ≡ (has next m || (is_some goal && s.edge n m))
+pub record OneListed (s : Shape) (n : ℕ) (target_block : Option ℕ) (next next2 : List ℕ) : Type 0 where
+  pub members : (m : ℕ) → has next2 m ≡ (has next m || (is_some target_block && s.edge n m))
 
 pub gone_none : (p p2 : List (Option ℕ)) (nodes numbers : List ℕ) (target_blocks : List (Option ℕ)) → p2 ≡ p → HaveGone p p2 nodes numbers target_blocks 0
 gone_none p p2 nodes numbers target_blocks e = record {
@@ -40,8 +40,8 @@ apart_places nodes i j once li lj e =
 apart_test : (n m : ℕ) → n ≢ m → nat_eq n m ≡ false
 apart_test n m ne = elim (eqb_tells n m) [ inl s ↦ absurd (ne s.1) | inr d ↦ d.0 ]
 
-unmoved : (n m : ℕ) (goal : Option ℕ) (p p2 : List (Option ℕ)) → OneMoved n goal p p2 → m ≢ n → at p2 m ≡ at p m
-unmoved n m goal p p2 o ne = o.blocks m ∙ ap (λ b. cond (b && is_some goal) goal (at p m)) (apart_test m n ne)
+unmoved : (n m : ℕ) (target_block : Option ℕ) (p p2 : List (Option ℕ)) → OneMoved n target_block p p2 → m ≢ n → at p2 m ≡ at p m
+unmoved n m target_block p p2 o ne = o.blocks m ∙ ap (λ b. cond (b && is_some target_block) target_block (at p m)) (apart_test m n ne)
 
 unmoved_none : (n m : ℕ) (p p2 : List (Option ℕ)) → OneMoved n None p p2 → at p2 m ≡ at p m
 unmoved_none n m p p2 o = o.blocks m ∙ by (nat_eq m n)

@@ -27,5 +27,5 @@ light_within r w spent h =
     let k = mul-le-mul_left w one in
     omega (arith, h, k)
 
-pub cost_charged : (w made spent : ℕ) (next : List ℕ) → spent ≤ made * (3 * w) → HasCost w made spent next
-cost_charged w made spent next h = going h
+pub cost_charged : (w new_blocks spent : ℕ) (next : List ℕ) → spent ≤ new_blocks * (3 * w) → HasCost w new_blocks spent next
+cost_charged w new_blocks spent next h = going h

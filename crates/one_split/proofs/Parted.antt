@@ -38,9 +38,9 @@ other_than : (n t : ℕ) → n ≢ t → nat_eq n t ≡ false
 other_than n t ne = elim (eqb_tells n t) [ inl s ↦ absurd (ne s.1) | inr d ↦ d.0 ]
 
 -- the target is alone: nothing moves
-pub part_stays : (s : Shape) (inside : ℕ → Bool) (first p : List (Option ℕ)) (next : List ℕ) (rest rest2 : ℕ → Bool) (made : List ℕ) (t : ℕ) → IsShape s
-    → ((n : ℕ) → Together p n t → n ≡ t) → IsFirstLeft rest rest2 t → IsSplitBut s inside first p next rest made → IsSplitBut s inside first p next rest2 made
-part_stays s inside first p next rest rest2 made t shape alone is_first a = record {
+pub part_stays : (s : Shape) (inside : ℕ → Bool) (first p : List (Option ℕ)) (next : List ℕ) (rest rest2 : ℕ → Bool) (new_blocks : List ℕ) (t : ℕ) → IsShape s
+    → ((n : ℕ) → Together p n t → n ≡ t) → IsFirstLeft rest rest2 t → IsSplitBut s inside first p next rest new_blocks → IsSplitBut s inside first p next rest2 new_blocks
+part_stays s inside first p next rest rest2 new_blocks t shape alone is_first a = record {
   stable = record {
     partition = a.stable.partition;
     label = λ u v nu nv k. (alike u v nu nv k).label;
@@ -58,11 +58,11 @@ part_stays s inside first p next rest rest2 made t shape alone is_first a = reco
   next_nodes = a.next_nodes;
   next_inside = a.next_inside;
   next_from = a.next_from;
-  moved_made = a.moved_made;
-  made_once = a.made_once;
-  made_inside = a.made_inside;
-  made_some = a.made_some;
-  made_off = λ c n h e. fewer n (a.made_off c n h e);
+  moved_new = a.moved_new;
+  new_once = a.new_once;
+  new_inside = a.new_inside;
+  new_some = a.new_some;
+  new_off = λ c n h e. fewer n (a.new_off c n h e);
 }
   where
     fewer : (n : ℕ) → IsFalse (rest n) → IsFalse (rest2 n)
@@ -86,10 +86,10 @@ part_stays s inside first p next rest rest2 made t shape alone is_first a = reco
     ]
 
 -- the target moves
-pub part_moves : (s : Shape) (inside : ℕ → Bool) (first p p2 : List (Option ℕ)) (next next2 : List ℕ) (rest rest2 : ℕ → Bool) (made made2 : List ℕ) (t b : ℕ) → IsShape s
-    → IsClosed s inside → IsTrue (inside t) → IsNode s t → IsApart p p2 t b → ((m : ℕ) → has next2 m ≡ (has next m || s.edge t m)) → made2 ≡ made ++ b ∷ [] → IsDistinct nat_eq made2
-    → IsFirstLeft rest rest2 t → IsSplitBut s inside first p next rest made → IsSplitBut s inside first p2 next2 rest2 made2
-part_moves s inside first p p2 next next2 rest rest2 made made2 t b shape closed within node apart children added once is_first a = record {
+pub part_moves : (s : Shape) (inside : ℕ → Bool) (first p p2 : List (Option ℕ)) (next next2 : List ℕ) (rest rest2 : ℕ → Bool) (new_blocks new_blocks2 : List ℕ) (t b : ℕ) → IsShape s
+    → IsClosed s inside → IsTrue (inside t) → IsNode s t → IsApart p p2 t b → ((m : ℕ) → has next2 m ≡ (has next m || s.edge t m)) → new_blocks2 ≡ new_blocks ++ b ∷ [] → IsDistinct nat_eq new_blocks2
+    → IsFirstLeft rest rest2 t → IsSplitBut s inside first p next rest new_blocks → IsSplitBut s inside first p2 next2 rest2 new_blocks2
+part_moves s inside first p p2 next next2 rest rest2 new_blocks new_blocks2 t b shape closed within node apart children added once is_first a = record {
   stable = record {
     partition = partition;
     label = λ u v nu nv k. elim (came u v k) [ inl e ↦ ap s.label e | inr (x, y, before) ↦ a.stable.label u v (off u nu x) (off v nv y) before ];
@@ -111,32 +111,32 @@ part_moves s inside first p p2 next next2 rest rest2 made made2 t b shape closed
   next_nodes = λ n h. elim (listed n h) [ inl before ↦ a.next_nodes n before | inr e ↦ shape.onto t n e ];
   next_inside = λ n h. elim (listed n h) [ inl before ↦ a.next_inside n before | inr e ↦ closed.children t n within e ];
   next_from = λ n h. elim (listed n h) [ inl before ↦ a.next_from n before | inr e ↦ (t, within, e) ];
-  moved_made = λ n c e. elim (eqb_tells n t) [
+  moved_new = λ n c e. elim (eqb_tells n t) [
     | inl x ↦ (
         let found : at p2 n ≡ Some b = ap (at p2) x.1 ∙ apart.there in
         let same : c ≡ b = cc in
-        inl (holds c ∙ or_right (has made c) (nat_eq c b) ((Decides-eqb c b).1 same)))
-    | inr x ↦ elim (a.moved_made n c (sym (apart.others n x.1) ∙ e)) [
-      | inl before ↦ inl (holds c ∙ or_left (has made c) (nat_eq c b) before)
+        inl (holds c ∙ or_right (has new_blocks c) (nat_eq c b) ((Decides-eqb c b).1 same)))
+    | inr x ↦ elim (a.moved_new n c (sym (apart.others n x.1) ∙ e)) [
+      | inl before ↦ inl (holds c ∙ or_left (has new_blocks c) (nat_eq c b) before)
       | inr there ↦ inr there
     ]
   ];
-  made_once = once;
-  made_inside = λ c n h e. elim (eqb_tells n t) [
+  new_once = once;
+  new_inside = λ c n h e. elim (eqb_tells n t) [
     | inl x ↦ ap inside x.1 ∙ within
     | inr x ↦ elim (was c h) [
-      | inl before ↦ a.made_inside c n before (sym (apart.others n x.1) ∙ e)
+      | inl before ↦ a.new_inside c n before (sym (apart.others n x.1) ∙ e)
       | inr is ↦ absurd (apart.empty n (sym (apart.others n x.1) ∙ e ∙ ap (λ y. Some y) is))
     ]
   ];
-  made_some = λ c h. elim (was c h) [
+  new_some = λ c h. elim (was c h) [
     | inr is ↦ (t, apart.there ∙ ap (λ x. Some x) (sym is))
     | inl before ↦ left c before
   ];
-  made_off = λ c n h e. elim (eqb_tells n t) [
+  new_off = λ c n h e. elim (eqb_tells n t) [
     | inl x ↦ ap rest2 x.1 ∙ is_first.gone
     | inr x ↦ elim (was c h) [
-      | inl before ↦ fewer n (a.made_off c n before (sym (apart.others n x.1) ∙ e))
+      | inl before ↦ fewer n (a.new_off c n before (sym (apart.others n x.1) ∙ e))
       | inr is ↦ absurd (apart.empty n (sym (apart.others n x.1) ∙ e ∙ ap (λ y. Some y) is))
     ]
   ];
@@ -145,11 +145,11 @@ part_moves s inside first p p2 next next2 rest rest2 made made2 t b shape closed
     fewer : (n : ℕ) → IsFalse (rest n) → IsFalse (rest2 n)
     fewer n h = false_from_ne_true (rest2 n) (λ x. both_ways (rest n) h (is_first.within n x))
 
-    holds : (c : ℕ) → has made2 c ≡ (has made c || nat_eq c b)
-    holds c = ap (λ xs. has xs c) added ∙ has_push made b c
+    holds : (c : ℕ) → has new_blocks2 c ≡ (has new_blocks c || nat_eq c b)
+    holds c = ap (λ xs. has xs c) added ∙ has_push new_blocks b c
 
-    was : (c : ℕ) → has made2 c ≡ true → IsTrue (has made c) ⊎ (c ≡ b)
-    was c h = elim (or_cases (has made c) (nat_eq c b) (sym (holds c) ∙ h)) [ inl before ↦ inl before | inr is ↦ inr ((Decides-eqb c b).0 is) ]
+    was : (c : ℕ) → has new_blocks2 c ≡ true → IsTrue (has new_blocks c) ⊎ (c ≡ b)
+    was c h = elim (or_cases (has new_blocks c) (nat_eq c b) (sym (holds c) ∙ h)) [ inl before ↦ inl before | inr is ↦ inr ((Decides-eqb c b).0 is) ]
 
     listed : (n : ℕ) → has next2 n ≡ true → IsTrue (has next n) ⊎ IsParent s t n
     listed n h = or_cases (has next n) (s.edge t n) (sym (children n) ∙ h)
@@ -199,11 +199,11 @@ part_moves s inside first p p2 next next2 rest rest2 made made2 t b shape closed
         (l.0, l.1, l.1)
 
     -- blocks that were made before still have members
-    left : (c : ℕ) → has made c ≡ true → (n : ℕ) × (at p2 n ≡ Some c)
+    left : (c : ℕ) → has new_blocks c ≡ true → (n : ℕ) × (at p2 n ≡ Some c)
     left c h =
-        let n = a.made_some c h in
+        let n = a.new_some c h in
         elim (eqb_tells n.0 t) [
-          | inl x ↦ absurd (both_ways (rest n.0) (a.made_off c n.0 h n.1) (ap rest x.1 ∙ is_first.here))
+          | inl x ↦ absurd (both_ways (rest n.0) (a.new_off c n.0 h n.1) (ap rest x.1 ∙ is_first.here))
           | inr x ↦ (n.0, apart.others n.0 x.1 ∙ n.1)
         ]
 
@@ -228,17 +228,17 @@ parting_none s inside p rest st = record {
   next_nodes = λ n h. absurd (none_listed n h);
   next_inside = λ n h. absurd (none_listed n h);
   next_from = λ n h. absurd (none_listed n h);
-  moved_made = λ n b e. inr e;
-  made_once = no_numbers;
-  made_inside = λ b n h e. absurd (none_listed b h);
-  made_some = λ b h. absurd (none_listed b h);
-  made_off = λ b n h e. absurd (none_listed b h);
+  moved_new = λ n b e. inr e;
+  new_once = no_numbers;
+  new_inside = λ b n h e. absurd (none_listed b h);
+  new_some = λ b h. absurd (none_listed b h);
+  new_off = λ b n h e. absurd (none_listed b h);
 }
 
 -- at the end, with what is looked at next in any order
-pub parting_done : (s : Shape) (inside : ℕ → Bool) (first p : List (Option ℕ)) (next next2 : List ℕ) (rest : ℕ → Bool) (made : List ℕ) → ((n : ℕ) → IsFalse (rest n))
-    → ((n : ℕ) → has next2 n ≡ has next n) → IsSplitBut s inside first p next rest made → IsSplitInside s inside first p next2 made
-parting_done s inside first p next next2 rest made none same a = record {
+pub parting_done : (s : Shape) (inside : ℕ → Bool) (first p : List (Option ℕ)) (next next2 : List ℕ) (rest : ℕ → Bool) (new_blocks : List ℕ) → ((n : ℕ) → IsFalse (rest n))
+    → ((n : ℕ) → has next2 n ≡ has next n) → IsSplitBut s inside first p next rest new_blocks → IsSplitInside s inside first p next2 new_blocks
+parting_done s inside first p next next2 rest new_blocks none same a = record {
   stable = record {
     partition = a.stable.partition;
     label = λ u v nu nv k. a.stable.label u v (off u nu) (off v nv) k;
@@ -250,10 +250,10 @@ parting_done s inside first p next next2 rest made none same a = record {
   next_nodes = λ n h. a.next_nodes n (sym (same n) ∙ h);
   next_inside = λ n h. a.next_inside n (sym (same n) ∙ h);
   next_from = λ n h. a.next_from n (sym (same n) ∙ h);
-  moved_made = a.moved_made;
-  made_once = a.made_once;
-  made_inside = a.made_inside;
-  made_some = a.made_some;
+  moved_new = a.moved_new;
+  new_once = a.new_once;
+  new_inside = a.new_inside;
+  new_some = a.new_some;
 }
   where
     off : (n : ℕ) → IsFalse (has next2 n) → IsFalse (either (has next) rest n)
@@ -334,30 +334,30 @@ pub children_more : (s : Shape) (t : ℕ) (next next2 children : List ℕ) → L
 children_more s t next next2 children lists added m = ap (λ xs. has xs m) added ∙ has_more next children m ∙ ap (λ x. has next m || x) (lists.members m)
 
 -- a block that was made just now
-pub blocks_more : (labels labels2 : ℕ → Option ℕ) (made made2 : List ℕ) (b : ℕ) → AreBlocks labels made → labels b ≡ None → LabelsStay labels labels2 → IsSome (labels2 b)
-    → made2 ≡ made ++ b ∷ [] → AreBlocks labels2 made2
-blocks_more labels labels2 made made2 b blocks free keep some added = record {
-  once = subst (IsDistinct nat_eq) (sym added) (and_one made b blocks.once absent).once;
-  some = λ c h. elim (or_cases (has made c) (nat_eq c b) (sym (has_push made b c) ∙ sym (ap (λ xs. has xs c) added) ∙ h)) [
+pub blocks_more : (labels labels2 : ℕ → Option ℕ) (new_blocks new_blocks2 : List ℕ) (b : ℕ) → AreBlocks labels new_blocks → labels b ≡ None → LabelsStay labels labels2 → IsSome (labels2 b)
+    → new_blocks2 ≡ new_blocks ++ b ∷ [] → AreBlocks labels2 new_blocks2
+blocks_more labels labels2 new_blocks new_blocks2 b blocks free keep some added = record {
+  once = subst (IsDistinct nat_eq) (sym added) (and_one new_blocks b blocks.once absent).once;
+  some = λ c h. elim (or_cases (has new_blocks c) (nat_eq c b) (sym (has_push new_blocks b c) ∙ sym (ap (λ xs. has xs c) added) ∙ h)) [
     | inl before ↦ some_kept labels labels2 c keep (blocks.some c before)
     | inr is ↦ subst (λ x. IsSome (labels2 x)) (sym ((Decides-eqb c b).0 is)) some
   ];
 }
   where
-    absent : has made b ≡ false
-    absent = false_from_ne_true (has made b) (λ h. let l = some_of (labels b) (blocks.some b h) in let clash : None ≡ Some l.0 = sym free ∙ l.1 in cc)
+    absent : has new_blocks b ≡ false
+    absent = false_from_ne_true (has new_blocks b) (λ h. let l = some_of (labels b) (blocks.some b h) in let clash : None ≡ Some l.0 = sym free ∙ l.1 in cc)
 
 -- one call more is charged to the block that it made
-pub charged_more : (w made made2 old now new cost : ℕ) → (made < made2) ⊎ ((made2 ≡ made) × (new ≡ now)) → now ≤ old + made * w → new ≤ now + cost → cost ≤ w → new ≤ old + made2 * w
-charged_more w made made2 old now new cost (inl grew) before after little =
-    let some : made + 1 ≤ made2 = omega (arith, grew) in
+pub charged_more : (w new_blocks new_blocks2 old now new cost : ℕ) → (new_blocks < new_blocks2) ⊎ ((new_blocks2 ≡ new_blocks) × (new ≡ now)) → now ≤ old + new_blocks * w → new ≤ now + cost → cost ≤ w → new ≤ old + new_blocks2 * w
+charged_more w new_blocks new_blocks2 old now new cost (inl grew) before after little =
+    let some : new_blocks + 1 ≤ new_blocks2 = omega (arith, grew) in
     let k = mul-le-mul_left w some in
     omega (arith, k, before, after, little)
-charged_more w made made2 old now new cost (inr (same, spent)) before after little =
-    let k : made2 * w ≡ made * w = ap (λ m. m * w) same in
+charged_more w new_blocks new_blocks2 old now new cost (inr (same, spent)) before after little =
+    let k : new_blocks2 * w ≡ new_blocks * w = ap (λ m. m * w) same in
     omega (arith, k, spent, before)
 
-pub parting_first : (s : Shape) (inside : ℕ → Bool) (p : List (Option ℕ)) (next made : List ℕ) (rest : ℕ → Bool) → next ≡ [] → made ≡ [] → StableBut s p rest
-    → IsSplitBut s inside p p next rest made
-parting_first s inside p next made rest e f st =
-    subst (λ xs. IsSplitBut s inside p p xs rest made) (sym e) (subst (λ ys. IsSplitBut s inside p p [] rest ys) (sym f) (parting_none s inside p rest st))
+pub parting_first : (s : Shape) (inside : ℕ → Bool) (p : List (Option ℕ)) (next new_blocks : List ℕ) (rest : ℕ → Bool) → next ≡ [] → new_blocks ≡ [] → StableBut s p rest
+    → IsSplitBut s inside p p next rest new_blocks
+parting_first s inside p next new_blocks rest e f st =
+    subst (λ xs. IsSplitBut s inside p p xs rest new_blocks) (sym e) (subst (λ ys. IsSplitBut s inside p p [] rest ys) (sym f) (parting_none s inside p rest st))

@@ -127,16 +127,16 @@ pub target_present : (p : List (Option ℕ)) (targets present : ℕ → Bool) (n
 target_present p targets present n a h = (and_parts (targets n) (is_some (at p n)) (sym (a.each n) ∙ h)).0
 
 -- a node that is moved has a block still
-pub partition_moved : (s : Shape) (p p2 : List (Option ℕ)) (n : ℕ) (goal : Option ℕ) → IsPartition s p → IsNode s n
-    → ((m : ℕ) → at p2 m ≡ cond (nat_eq m n && is_some goal) goal (at p m)) → IsPartition s p2
-partition_moved s p p2 n goal partition node moved = record {
-  live = λ m h. elim (cases_Bool (nat_eq m n && is_some goal)) [
-    | inl on ↦ ap is_some (moved m ∙ ap (λ t. cond t goal (at p m)) on) ∙ (and_parts (nat_eq m n) (is_some goal) on).1
-    | inr off ↦ ap is_some (moved m ∙ ap (λ t. cond t goal (at p m)) off) ∙ partition.live m h
+pub partition_moved : (s : Shape) (p p2 : List (Option ℕ)) (n : ℕ) (target_block : Option ℕ) → IsPartition s p → IsNode s n
+    → ((m : ℕ) → at p2 m ≡ cond (nat_eq m n && is_some target_block) target_block (at p m)) → IsPartition s p2
+partition_moved s p p2 n target_block partition node moved = record {
+  live = λ m h. elim (cases_Bool (nat_eq m n && is_some target_block)) [
+    | inl on ↦ ap is_some (moved m ∙ ap (λ t. cond t target_block (at p m)) on) ∙ (and_parts (nat_eq m n) (is_some target_block) on).1
+    | inr off ↦ ap is_some (moved m ∙ ap (λ t. cond t target_block (at p m)) off) ∙ partition.live m h
   ];
-  only = λ m h. elim (cases_Bool (nat_eq m n && is_some goal)) [
-    | inl on ↦ subst (IsNode s) (sym ((Decides-eqb m n).0 (and_parts (nat_eq m n) (is_some goal) on).0)) node
-    | inr off ↦ partition.only m (sym (ap is_some (moved m ∙ ap (λ t. cond t goal (at p m)) off)) ∙ h)
+  only = λ m h. elim (cases_Bool (nat_eq m n && is_some target_block)) [
+    | inl on ↦ subst (IsNode s) (sym ((Decides-eqb m n).0 (and_parts (nat_eq m n) (is_some target_block) on).0)) node
+    | inr off ↦ partition.only m (sym (ap is_some (moved m ∙ ap (λ t. cond t target_block (at p m)) off)) ∙ h)
   ];
 }
 

@@ -41,10 +41,10 @@ next_set s nodes numbers target_blocks i next next2 set a = record {
 }
 
 -- either blocks were made, or nothing is to be looked at next
-pub more_or_none : (s : Shape) (nodes numbers : List ℕ) (target_blocks : List (Option ℕ)) (i : ℕ) (next made made2 : List ℕ) → ListsChildrenOf s nodes numbers target_blocks i next
-    → AreAdded target_blocks made made2 → (length made < length made2) ⊎ (next ≡ [])
-more_or_none s nodes numbers target_blocks i [] made made2 a added = inr refl
-more_or_none s nodes numbers target_blocks i (x ∷ xs) made made2 a added =
+pub more_or_none : (s : Shape) (nodes numbers : List ℕ) (target_blocks : List (Option ℕ)) (i : ℕ) (next new_blocks new_blocks2 : List ℕ) → ListsChildrenOf s nodes numbers target_blocks i next
+    → AreAdded target_blocks new_blocks new_blocks2 → (length new_blocks < length new_blocks2) ⊎ (next ≡ [])
+more_or_none s nodes numbers target_blocks i [] new_blocks new_blocks2 a added = inr refl
+more_or_none s nodes numbers target_blocks i (x ∷ xs) new_blocks new_blocks2 a added =
     let r = a.from x (or_left (nat_eq x x) (has xs x) ((Decides-eqb x x).1 refl)) in
     inl (added.more (slice_index numbers r.0) r.1 r.3)
 

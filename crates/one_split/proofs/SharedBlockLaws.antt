@@ -54,9 +54,9 @@ kept_off p nodes kept n is on h = off_right (has nodes n) (shares_block p n) on 
     off_right false b e f = absurd (cc)
 
 -- splitting goes on at the nodes that share their blocks
-pub split_kept : (s : Shape) (inside : ℕ → Bool) (first p : List (Option ℕ)) (nodes kept made : List ℕ) → IsShape s → kept ≡ filter (shares_block p) nodes
-    → IsSplitInside s inside first p nodes made → IsSplitInside s inside first p kept made
-split_kept s inside first p nodes kept made shape is a = record {
+pub split_kept : (s : Shape) (inside : ℕ → Bool) (first p : List (Option ℕ)) (nodes kept new_blocks : List ℕ) → IsShape s → kept ≡ filter (shares_block p) nodes
+    → IsSplitInside s inside first p nodes new_blocks → IsSplitInside s inside first p kept new_blocks
+split_kept s inside first p nodes kept new_blocks shape is a = record {
   stable = record {
     partition = a.stable.partition;
     label = λ u v hu hv t. a.labels u v t;
@@ -74,21 +74,21 @@ split_kept s inside first p nodes kept made shape is a = record {
   next_nodes = λ n h. a.next_nodes n (kept_there p nodes kept n is h);
   next_inside = λ n h. a.next_inside n (kept_there p nodes kept n is h);
   next_from = λ n h. a.next_from n (kept_there p nodes kept n is h);
-  moved_made = a.moved_made;
-  made_once = a.made_once;
-  made_inside = a.made_inside;
-  made_some = a.made_some;
+  moved_new = a.moved_new;
+  new_once = a.new_once;
+  new_inside = a.new_inside;
+  new_some = a.new_some;
 }
   where
     same : (u v : ℕ) → v ≡ u → Covers (IsParent s) (Together p) u v
     same u v e = subst (Covers (IsParent s) (Together p) u) (sym e) (self_covered s p u shape a.stable.partition)
 
 -- and so does a round
-pub round_kept : (a : Pending) (base : Quotient) (d d2 : Drafted) (nodes kept made made2 next : List ℕ) → IsShape (shape_of (graph_after a)) → kept ≡ filter (shares_block (shown_blocks base d)) nodes
-    → IsRound a base d d2 kept made made2 next → IsRound a base d d2 nodes made made2 next
-round_kept a base d d2 nodes kept made made2 next shape is r = record {
+pub round_kept : (a : Pending) (base : Quotient) (d d2 : Drafted) (nodes kept new_blocks new_blocks2 next : List ℕ) → IsShape (shape_of (graph_after a)) → kept ≡ filter (shares_block (shown_blocks base d)) nodes
+    → IsRound a base d d2 kept new_blocks new_blocks2 next → IsRound a base d d2 nodes new_blocks new_blocks2 next
+round_kept a base d d2 nodes kept new_blocks new_blocks2 next shape is r = record {
   over = r.over;
-  split = λ inside first closed split. r.split inside first closed (split_kept (shape_of (graph_after a)) inside first (shown_blocks base d) nodes kept made shape is split);
+  split = λ inside first closed split. r.split inside first closed (split_kept (shape_of (graph_after a)) inside first (shown_blocks base d) nodes kept new_blocks shape is split);
   once = r.once;
   block_labels = r.block_labels;
   blocks = r.blocks;

@@ -62,18 +62,18 @@ pub record TargetBlocksExist (target_blocks : List (Option ℕ)) (labels : ℕ �
   pub some : (k b : ℕ) → target_block_at target_blocks k ≡ Some b → IsSome (labels b)
 
 -- distinct blocks
-pub record AreBlocks (labels : ℕ → Option ℕ) (made : List ℕ) : Type 0 where
-  pub once : IsDistinct nat_eq made
-  pub some : (b : ℕ) → IsTrue (has made b) → IsSome (labels b)
+pub record AreBlocks (labels : ℕ → Option ℕ) (new_blocks : List ℕ) : Type 0 where
+  pub once : IsDistinct nat_eq new_blocks
+  pub some : (b : ℕ) → IsTrue (has new_blocks b) → IsSome (labels b)
 
 -- the target blocks are put behind those that were made
-pub record AreAdded (target_blocks : List (Option ℕ)) (made made2 : List ℕ) : Type 0 where
-  pub from : (b : ℕ) → IsTrue (has made2 b)
-      → IsTrue (has made b) ⊎ ((k : ℕ) × (k < length target_blocks) × (target_block_at target_blocks k ≡ Some b))
-  pub more : (k b : ℕ) → target_block_at target_blocks k ≡ Some b → length made < length made2
-  pub least : length made ≤ length made2
-  pub keeps : (b : ℕ) → IsTrue (has made b) → IsTrue (has made2 b)
-  pub holds : (k b : ℕ) → target_block_at target_blocks k ≡ Some b → IsTrue (has made2 b)
+pub record AreAdded (target_blocks : List (Option ℕ)) (new_blocks new_blocks2 : List ℕ) : Type 0 where
+  pub from : (b : ℕ) → IsTrue (has new_blocks2 b)
+      → IsTrue (has new_blocks b) ⊎ ((k : ℕ) × (k < length target_blocks) × (target_block_at target_blocks k ≡ Some b))
+  pub more : (k b : ℕ) → target_block_at target_blocks k ≡ Some b → length new_blocks < length new_blocks2
+  pub least : length new_blocks ≤ length new_blocks2
+  pub keeps : (b : ℕ) → IsTrue (has new_blocks b) → IsTrue (has new_blocks2 b)
+  pub holds : (k b : ℕ) → target_block_at target_blocks k ≡ Some b → IsTrue (has new_blocks2 b)
 
 -- a target block has the label of the block from which its group comes
 pub record TargetBlocksHaveLabels (keys : List (List ℕ)) (target_blocks : List (Option ℕ)) (labels labels2 : ℕ → Option ℕ) : Type 0 where
@@ -93,12 +93,12 @@ SetsLabel b label labels labels2 = (c : ℕ) → labels2 c ≡ (if nat_eq c b th
 
 -- a block to which a group goes has the label of the block from which it comes
 abbrev pub TakesLabel : ℕ → Option ℕ → (ℕ → Option ℕ) → (ℕ → Option ℕ) → Type 0
-TakesLabel own goal labels labels2 = (b : ℕ) → goal ≡ Some b → labels2 b ≡ labels own
+TakesLabel own target_block labels labels2 = (b : ℕ) → target_block ≡ Some b → labels2 b ≡ labels own
 
 -- the node goes to the block, if there is one, and all others stay
 abbrev pub GoesTo : ℕ → Option ℕ → List (Option ℕ) → List (Option ℕ) → Type 0
-GoesTo n goal p p2 = (m : ℕ) → at p2 m ≡ (if nat_eq m n && is_some goal then goal else at p m)
+GoesTo n target_block p p2 = (m : ℕ) → at p2 m ≡ (if nat_eq m n && is_some target_block then target_block else at p m)
 
 -- where the node goes to a block, its children are put into the list
 abbrev pub ListsChildrenIf : (ℕ → ℕ → Bool) → ℕ → Option ℕ → List ℕ → List ℕ → Type 0
-ListsChildrenIf leads n goal next next2 = (m : ℕ) → has next2 m ≡ (has next m || (is_some goal && leads n m))
+ListsChildrenIf leads n target_block next next2 = (m : ℕ) → has next2 m ≡ (has next m || (is_some target_block && leads n m))

@@ -17,30 +17,30 @@ use Rattle.one_split.specs.NodeTargetBlocks.{AreBlocks, MembersHaveLabels, GoesI
 
 -- The draft shows a partition of the graph after the change, with labels and the numbers of edges; the nodes are there,
 -- each once; and what was made are blocks.
-pub record CanRound (a : Pending) (base : Quotient) (d : Drafted) (nodes made : List ℕ) : Type 0 where
+pub record CanRound (a : Pending) (base : Quotient) (d : Drafted) (nodes new_blocks : List ℕ) : Type 0 where
   pub over : IsOver base.blocks.block_of base.blocks.labels d
   pub live : MembersHaveLabels (shown_blocks base d) (at (shown_labels base d))
   pub there : (n : ℕ) → IsTrue (has nodes n) → IsTrue (is_live (graph_after a) n)
   pub shape : IsShape (shape_of (graph_after a))
   pub partition : IsPartition (shape_of (graph_after a)) (shown_blocks base d)
   pub once : IsDistinct nat_eq nodes
-  pub blocks : AreBlocks (at (shown_labels base d)) made
+  pub blocks : AreBlocks (at (shown_labels base d)) new_blocks
   pub supports : AreEdgeCounts (graph_after a) (shown_blocks base d) (shown_support base d)
 
 -- The nodes are parted, and by that the next nodes may have come apart from others: what held of the nodes and of the
 -- blocks made before holds of the next nodes and of the blocks made by then. Where no block was made, no node is next.
-pub record IsRound (a : Pending) (base : Quotient) (d d2 : Drafted) (nodes made made2 next : List ℕ) : Type 0 where
+pub record IsRound (a : Pending) (base : Quotient) (d d2 : Drafted) (nodes new_blocks new_blocks2 next : List ℕ) : Type 0 where
   pub over : IsOver base.blocks.block_of base.blocks.labels d2
   pub split : (inside : ℕ → Bool) (first : List (Option ℕ)) → IsClosed (shape_of (graph_after a)) inside
-      → IsSplitInside (shape_of (graph_after a)) inside first (shown_blocks base d) nodes made
-      → IsSplitInside (shape_of (graph_after a)) inside first (shown_blocks base d2) next made2
+      → IsSplitInside (shape_of (graph_after a)) inside first (shown_blocks base d) nodes new_blocks
+      → IsSplitInside (shape_of (graph_after a)) inside first (shown_blocks base d2) next new_blocks2
   pub once : IsDistinct nat_eq next
   pub block_labels : (node_labels : ℕ → Option ℕ) → BlocksHaveLabels (shown_blocks base d) (at (shown_labels base d)) node_labels
       → BlocksHaveLabels (shown_blocks base d2) (at (shown_labels base d2)) node_labels
-  pub blocks : AreBlocks (at (shown_labels base d2)) made2
+  pub blocks : AreBlocks (at (shown_labels base d2)) new_blocks2
   pub supports : AreEdgeCounts (graph_after a) (shown_blocks base d2) (shown_support base d2)
-  pub least : length made ≤ length made2
-  pub more : (length made < length made2) ⊎ (next ≡ [])
+  pub least : length new_blocks ≤ length new_blocks2
+  pub more : (length new_blocks < length new_blocks2) ⊎ (next ≡ [])
 
 -- the draft has further blocks, and all else is as it was
 pub record ExtendsDraft (base : Quotient) (d d2 : Drafted) : Type 0 where
@@ -77,8 +77,8 @@ ShowsRightLabels a base d = BlocksHaveLabels (shown_blocks base d) (at (shown_la
 
 -- where a group goes, it goes to a block that was none before it was drafted, as `GoesIf` says
 abbrev pub GoesAsDrafted : Quotient → Drafted → Drafted → List (ℕ × ℕ) → ℕ → List ℕ → List ℕ → Option ℕ → Type 0
-GoesAsDrafted base d d2 counts own stays stays2 goal =
-    GoesIf (shown_blocks base d) (at (shown_labels base d)) (at (shown_labels base d2)) counts own stays stays2 goal
+GoesAsDrafted base d d2 counts own stays stays2 target_block =
+    GoesIf (shown_blocks base d) (at (shown_labels base d)) (at (shown_labels base d2)) counts own stays stays2 target_block
 
 -- a block to which a group goes has, as drafted, the label of the block from which it comes
 abbrev pub TargetBlocksTakeLabels : Quotient → Drafted → Drafted → List (List ℕ) → List (Option ℕ) → Type 0

@@ -14,14 +14,14 @@ round_cost a n = 2 * parents_cost a n + children_cost a n
 
 -- What the rounds have cost, where the change costs w at the nodes inside: at most so much for each block that was made; once
 -- nothing is left to be examined, for one more.
-pub data HasCost (w made spent : ℕ) (next : List ℕ) : Type 0 where
-  going : spent ≤ made * (3 * w) → HasCost w made spent next
-  ended : next ≡ [] → spent ≤ (made + 1) * (3 * w) → HasCost w made spent next
+pub data HasCost (w new_blocks spent : ℕ) (next : List ℕ) : Type 0 where
+  going : spent ≤ new_blocks * (3 * w) → HasCost w new_blocks spent next
+  ended : next ≡ [] → spent ≤ (new_blocks + 1) * (3 * w) → HasCost w new_blocks spent next
 
 -- a block was made, or none was made and no step was taken
 abbrev pub IsCharged : List ℕ → List ℕ → ℕ → ℕ → Type 0
-IsCharged made made2 steps steps2 = (length made < length made2) ⊎ ((length made2 ≡ length made) × (steps2 ≡ steps))
+IsCharged new_blocks new_blocks2 steps steps2 = (length new_blocks < length new_blocks2) ⊎ ((length new_blocks2 ≡ length new_blocks) × (steps2 ≡ steps))
 
 -- where moving a target costs at most w, no more than w was spent for each block that was made
 abbrev pub CostsPerBlock : Pending → List ℕ → List ℕ → ℕ → ℕ → Type 0
-CostsPerBlock a targets made steps steps2 = (w : ℕ) → ((n : ℕ) → IsTrue (has targets n) → move_cost a n ≤ w) → steps2 ≤ steps + length made * w
+CostsPerBlock a targets new_blocks steps steps2 = (w : ℕ) → ((n : ℕ) → IsTrue (has targets n) → move_cost a n ≤ w) → steps2 ≤ steps + length new_blocks * w

@@ -19,12 +19,12 @@ use Rattle.quotient_draft.specs.Drafts.{Drafted, shown_blocks, shown_labels, sho
 
 -- The draft shows a partition of the graph after the change, with the numbers of edges; it is stable, and blocks have
 -- the labels of their members, except perhaps at the targets. Each target is given once, and no block was made.
-pub record CanSplit (a : Pending) (base : Quotient) (d : Drafted) (targets made : List ℕ) : Type 0 where
+pub record CanSplit (a : Pending) (base : Quotient) (d : Drafted) (targets new_blocks : List ℕ) : Type 0 where
   pub over : IsOver base.blocks.block_of base.blocks.labels d
   pub once : IsDistinct nat_eq targets
   pub stable : StableBut (shape_of (graph_after a)) (shown_blocks base d) (has targets)
   pub block_labels : BlocksHaveLabelsBut (has targets) (shown_blocks base d) (at (shown_labels base d)) (label_number (graph_after a))
-  pub none : made ≡ []
+  pub none : new_blocks ≡ []
   pub supports : AreEdgeCounts (graph_after a) (shown_blocks base d) (shown_support base d)
 
 -- passes one of two tests
@@ -33,7 +33,7 @@ either f g n = f n || g n
 
 -- After some targets: the partition is stable except perhaps at the targets that are left and the nodes that are
 -- examined next, and for the rest as for `IsSplitInside`.
-pub record IsSplitBut (s : Shape) (inside : ℕ → Bool) (first p : List (Option ℕ)) (next : List ℕ) (rest : ℕ → Bool) (made : List ℕ) : Type 0 where
+pub record IsSplitBut (s : Shape) (inside : ℕ → Bool) (first p : List (Option ℕ)) (next : List ℕ) (rest : ℕ → Bool) (new_blocks : List ℕ) : Type 0 where
   pub stable : StableBut s p (either (has next) rest)
   pub within : IsRefinement first p
   pub same : SameBut first p inside
@@ -41,11 +41,11 @@ pub record IsSplitBut (s : Shape) (inside : ℕ → Bool) (first p : List (Optio
   pub next_nodes : (n : ℕ) → IsTrue (has next n) → IsNode s n
   pub next_inside : (n : ℕ) → IsTrue (has next n) → IsTrue (inside n)
   pub next_from : (n : ℕ) → IsTrue (has next n) → (q : ℕ) × IsTrue (inside q) × IsParent s q n
-  pub moved_made : (n b : ℕ) → at p n ≡ Some b → IsTrue (has made b) ⊎ (at first n ≡ Some b)
-  pub made_once : IsDistinct nat_eq made
-  pub made_inside : (b n : ℕ) → IsTrue (has made b) → at p n ≡ Some b → IsTrue (inside n)
-  pub made_some : (b : ℕ) → IsTrue (has made b) → (n : ℕ) × (at p n ≡ Some b)
-  pub made_off : (b n : ℕ) → IsTrue (has made b) → at p n ≡ Some b → IsFalse (rest n)
+  pub moved_new : (n b : ℕ) → at p n ≡ Some b → IsTrue (has new_blocks b) ⊎ (at first n ≡ Some b)
+  pub new_once : IsDistinct nat_eq new_blocks
+  pub new_inside : (b n : ℕ) → IsTrue (has new_blocks b) → at p n ≡ Some b → IsTrue (inside n)
+  pub new_some : (b : ℕ) → IsTrue (has new_blocks b) → (n : ℕ) × (at p n ≡ Some b)
+  pub new_off : (b n : ℕ) → IsTrue (has new_blocks b) → at p n ≡ Some b → IsFalse (rest n)
 
 -- the first of what is left is t, the rest is what comes behind it
 pub record IsFirstLeft (rest rest2 : ℕ → Bool) (t : ℕ) : Type 0 where
@@ -61,10 +61,10 @@ HaveLiveBlocks targets base d = (n b : ℕ) → IsTrue (has targets n) → at (s
 -- Whatever closed set has the target: where the partition was stable except perhaps at some targets, of which this one
 -- is the first, it is so except perhaps at the others and at the nodes that are examined next.
 abbrev pub PartsTarget : Pending → ℕ → Quotient → Drafted → Drafted → List ℕ → List ℕ → List ℕ → List ℕ → Type 0
-PartsTarget a target base d d2 next next2 made made2 = (inside : ℕ → Bool) (first : List (Option ℕ)) (rest rest2 : ℕ → Bool)
+PartsTarget a target base d d2 next next2 new_blocks new_blocks2 = (inside : ℕ → Bool) (first : List (Option ℕ)) (rest rest2 : ℕ → Bool)
     → IsClosed (shape_of (graph_after a)) inside → IsTrue (inside target) → IsFirstLeft rest rest2 target
-    → IsSplitBut (shape_of (graph_after a)) inside first (shown_blocks base d) next rest made
-    → IsSplitBut (shape_of (graph_after a)) inside first (shown_blocks base d2) next2 rest2 made2
+    → IsSplitBut (shape_of (graph_after a)) inside first (shown_blocks base d) next rest new_blocks
+    → IsSplitBut (shape_of (graph_after a)) inside first (shown_blocks base d2) next2 rest2 new_blocks2
 
 -- where blocks had the labels of their members except perhaps at some targets, of which this one is the first, they
 -- have them except perhaps at the others
@@ -75,9 +75,9 @@ LabelsRightAfter a target base d d2 = (rest rest2 : ℕ → Bool) → IsFirstLef
 
 -- whatever set is closed under children and has the targets: blocks are split inside it
 abbrev pub SplitsInside : Pending → List ℕ → Quotient → Drafted → Drafted → List ℕ → List ℕ → Type 0
-SplitsInside a targets base d d2 next made =
+SplitsInside a targets base d d2 next new_blocks =
     (inside : ℕ → Bool) → IsClosed (shape_of (graph_after a)) inside → ((n : ℕ) → IsTrue (has targets n) → IsTrue (inside n))
-    → IsSplitInside (shape_of (graph_after a)) inside (shown_blocks base d) (shown_blocks base d2) next made
+    → IsSplitInside (shape_of (graph_after a)) inside (shown_blocks base d) (shown_blocks base d2) next new_blocks
 
 -- whatever set is closed under children and has the targets: the steps are at most four times its numbers and one,
 -- times what the change costs at them

@@ -33,23 +33,23 @@ fn move_one<L: Ledger>(
     draft: &mut Draft,
     after: &After<'_>,
     n: NodeId,
-    goal: Option<u32>,
+    target_block: Option<u32>,
     next: &mut NextNodes,
     steps: &mut Steps<L>,
 ) -> Result<(), Memory>
     requires over { IsOver base.now.blocks.block_of base.now.blocks.labels draft.old }
     requires live { IsTrue (is_live (graph_after after.now) n) }
     requires partition { IsPartition (shape_of (graph_after after.now)) (shown_blocks base.now draft.old) }
-    requires block { IfSome goal (λ b. IsSome (at (shown_labels base.now draft.old) b)) }
+    requires block { IfSome target_block (λ b. IsSome (at (shown_labels base.now draft.old) b)) }
     requires supports { AreEdgeCounts (graph_after after.now) (shown_blocks base.now draft.old) (shown_support base.now draft.old) }
     ensures over { OnOk result (IsOver base.now.blocks.block_of base.now.blocks.labels draft.new) }
-    ensures moved { OnOk result (GoesTo n goal (shown_blocks base.now draft.old) (shown_blocks base.now draft.new)) }
+    ensures moved { OnOk result (GoesTo n target_block (shown_blocks base.now draft.old) (shown_blocks base.now draft.new)) }
     ensures added { draft.new.added ≡ draft.old.added }
     ensures supports { OnOk result (AreEdgeCounts (graph_after after.now) (shown_blocks base.now draft.new) (shown_support base.now draft.new)) }
-    ensures next { OnOk result (ListsChildrenIf (leads_after after.now) n goal next.old.list.items next.new.list.items) }
+    ensures next { OnOk result (ListsChildrenIf (leads_after after.now) n target_block next.old.list.items next.new.list.items) }
     ensures cost { steps.new ≤ steps.old + move_cost after.now n }
 {
-    let Some(b) = goal else {
+    let Some(b) = target_block else {
         return Ok(());
     };
     move_node(base, draft, after, n, b, &mut next.neighbours, steps)?;
@@ -69,8 +69,8 @@ fn target_block_of(groups: &Groups, i: usize) -> Option<u32>
     requires { i < length groups.now.numbers.items }
     ensures { result ≡ target_block_at groups.now.target_blocks.items (slice_index groups.now.numbers.items i) }
 {
-    let goal = groups.target_blocks.get(groups.numbers[i] as usize)?;
-    *goal
+    let target_block = groups.target_blocks.get(groups.numbers[i] as usize)?;
+    *target_block
 }
 
 // Moves each node to where its group goes, and lists the children of those that move.
@@ -98,8 +98,8 @@ fn move_nodes<L: Ledger>(
 {
     let mut next = NextNodes::new(alloc);
     for (i, n) in nodes.iter().enumerate() {
-        let goal = target_block_of(groups, i);
-        move_one(base, draft, after, *n, goal, &mut next, steps)?;
+        let target_block = target_block_of(groups, i);
+        move_one(base, draft, after, *n, target_block, &mut next, steps)?;
     }
     Ok(next.list)
 }
@@ -111,17 +111,17 @@ fn part_by_keys<L: Ledger>(
     draft: &mut Draft,
     after: &After<'_>,
     nodes: &[NodeId],
-    made: &mut Vec<u32>,
+    new_blocks: &mut Vec<u32>,
     steps: &mut Steps<L>,
 ) -> Result<Vec<NodeId>, Memory>
-    requires { CanRound after.now base.now draft.old nodes.now made.old.items }
-    ensures round { IfOk result (λ next. IsRound after.now base.now draft.old draft.new nodes.now made.old.items made.new.items next.items) }
+    requires { CanRound after.now base.now draft.old nodes.now new_blocks.old.items }
+    ensures round { IfOk result (λ next. IsRound after.now base.now draft.old draft.new nodes.now new_blocks.old.items new_blocks.new.items next.items) }
     ensures cost { steps.new ≤ steps.old + sum_by (round_cost after.now) nodes.now }
 {
     let mut keys = KeyTable::new(alloc)?;
     let numbers = number_nodes(alloc, base, draft, after, nodes, &mut keys, steps)?;
     let counts = count_by_block(alloc, base, draft, nodes)?;
-    let target_blocks = find_target_blocks(alloc, base, draft, &counts, &keys, made)?;
+    let target_blocks = find_target_blocks(alloc, base, draft, &counts, &keys, new_blocks)?;
     let groups = Groups {
         numbers,
         target_blocks,
@@ -139,15 +139,15 @@ pub(crate) fn round<L: Ledger>(
     draft: &mut Draft,
     after: &After<'_>,
     nodes: &[NodeId],
-    made: &mut Vec<u32>,
+    new_blocks: &mut Vec<u32>,
     steps: &mut Steps<L>,
 ) -> Result<Vec<NodeId>, Memory>
-    requires { CanRound after.now base.now draft.old nodes.now made.old.items }
-    ensures round { IfOk result (λ next. IsRound after.now base.now draft.old draft.new nodes.now made.old.items made.new.items next.items) }
+    requires { CanRound after.now base.now draft.old nodes.now new_blocks.old.items }
+    ensures round { IfOk result (λ next. IsRound after.now base.now draft.old draft.new nodes.now new_blocks.old.items new_blocks.new.items next.items) }
     ensures cost { steps.new ≤ steps.old + sum_by (round_cost after.now) nodes.now }
 {
     let kept = in_shared_blocks(alloc, base, draft, nodes)?;
-    part_by_keys(alloc, base, draft, after, &kept, made, steps)
+    part_by_keys(alloc, base, draft, after, &kept, new_blocks, steps)
 }
 
 /// Whether nothing is left to be examined.

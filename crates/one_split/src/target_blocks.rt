@@ -66,7 +66,7 @@ fn find_target_block(
     counts: &IndexMap<u32, usize>,
     own: u32,
     stays: &mut IndexSet<u32>,
-    made: &mut Vec<u32>,
+    new_blocks: &mut Vec<u32>,
 ) -> Result<Option<u32>, Memory>
     requires over { IsOver base.now.blocks.block_of base.now.blocks.labels draft.old }
     requires live { MembersHaveLabels (shown_blocks base.now draft.old) (at (shown_labels base.now draft.old)) }
@@ -75,17 +75,17 @@ fn find_target_block(
     ensures stay { OnOk result (shown_blocks base.now draft.new ≡ shown_blocks base.now draft.old) }
     ensures supports { OnOk result ((x y : ℕ) → shown_support base.now draft.new x y ≡ shown_support base.now draft.old x y) }
     ensures kept { OnOk result (LabelsStay (at (shown_labels base.now draft.old)) (at (shown_labels base.now draft.new))) }
-    ensures label { IfOk result (λ goal. TakesLabel own goal (at (shown_labels base.now draft.old)) (at (shown_labels base.now draft.new))) }
-    ensures stays { IfOk result (λ goal. StaysIf (shown_blocks base.now draft.old) counts.now.entries own stays.old.keys stays.new.keys goal) }
-    ensures goes { IfOk result (λ goal. GoesAsDrafted base.now draft.old draft.new counts.now.entries own stays.old.keys stays.new.keys goal) }
-    ensures made { IfOk result (λ goal. made.new.items ≡ made.old.items ++ option_to_list goal) }
+    ensures label { IfOk result (λ target_block. TakesLabel own target_block (at (shown_labels base.now draft.old)) (at (shown_labels base.now draft.new))) }
+    ensures stays { IfOk result (λ target_block. StaysIf (shown_blocks base.now draft.old) counts.now.entries own stays.old.keys stays.new.keys target_block) }
+    ensures goes { IfOk result (λ target_block. GoesAsDrafted base.now draft.old draft.new counts.now.entries own stays.old.keys stays.new.keys target_block) }
+    ensures new_blocks { IfOk result (λ target_block. new_blocks.new.items ≡ new_blocks.old.items ++ option_to_list target_block) }
 {
     if may_stay(base, draft, counts, own, stays) {
         stays.insert(own)?;
         return Ok(None);
     }
     let b = draft_block(base, draft, draft.label(base, own))?;
-    made.push(b)?;
+    new_blocks.push(b)?;
     Ok(Some(b))
 }
 
@@ -96,26 +96,26 @@ pub(crate) fn find_target_blocks(
     draft: &mut Draft,
     counts: &IndexMap<u32, usize>,
     keys: &KeyTable,
-    made: &mut Vec<u32>,
+    new_blocks: &mut Vec<u32>,
 ) -> Result<Vec<Option<u32>>, Memory>
     requires over { IsOver base.now.blocks.block_of base.now.blocks.labels draft.old }
     requires live { MembersHaveLabels (shown_blocks base.now draft.old) (at (shown_labels base.now draft.old)) }
     requires keys { (k : ℕ) → k < length keys.now → (own : ℕ) × BeginsAt keys.now k own × IsSome (at (shown_labels base.now draft.old) own) }
-    requires made { AreBlocks (at (shown_labels base.now draft.old)) made.old.items }
+    requires new_blocks { AreBlocks (at (shown_labels base.now draft.old)) new_blocks.old.items }
     ensures extends { OnOk result (ExtendsDraft base.now draft.old draft.new) }
     ensures count { IfOk result (λ target_blocks. length target_blocks.items ≡ length keys.now) }
     ensures going { IfOk result (λ target_blocks. AreGroupTargetBlocks (shown_blocks base.now draft.old) counts.now.entries keys.now target_blocks.items) }
     ensures blocks { IfOk result (λ target_blocks. TargetBlocksExist target_blocks.items (at (shown_labels base.now draft.new))) }
     ensures labels { IfOk result (λ target_blocks. TargetBlocksTakeLabels base.now draft.old draft.new keys.now target_blocks.items) }
-    ensures made { OnOk result (AreBlocks (at (shown_labels base.now draft.new)) made.new.items) }
-    ensures from { IfOk result (λ target_blocks. AreAdded target_blocks.items made.old.items made.new.items) }
+    ensures new_blocks { OnOk result (AreBlocks (at (shown_labels base.now draft.new)) new_blocks.new.items) }
+    ensures from { IfOk result (λ target_blocks. AreAdded target_blocks.items new_blocks.old.items new_blocks.new.items) }
 {
     let mut stays = IndexSet::new(alloc);
     let mut target_blocks = Vec::with_capacity(alloc, keys.len() as usize)?;
     for k in 0..keys.len() {
         let own = own_number(keys.key(k));
-        let goal = find_target_block(base, draft, counts, own, &mut stays, made)?;
-        target_blocks.push(goal)?;
+        let target_block = find_target_block(base, draft, counts, own, &mut stays, new_blocks)?;
+        target_blocks.push(target_block)?;
     }
     Ok(target_blocks)
 }

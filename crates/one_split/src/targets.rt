@@ -70,22 +70,22 @@ fn part_one<L: Ledger>(
     draft: &mut Draft,
     after: &After<'_>,
     target: NodeId,
-    made: &mut Vec<u32>,
+    new_blocks: &mut Vec<u32>,
     next: &mut NextNodes,
     steps: &mut Steps<L>,
 ) -> Result<(), Memory>
     requires shown { ShowsPartition after.now base.now draft.old }
     requires live { MembersHaveLabels (shown_blocks base.now draft.old) (at (shown_labels base.now draft.old)) }
     requires node { IsTrue (is_live (graph_after after.now) target) }
-    requires made { AreBlocks (at (shown_labels base.now draft.old)) made.old.items }
+    requires new_blocks { AreBlocks (at (shown_labels base.now draft.old)) new_blocks.old.items }
     ensures over { OnOk result (IsOver base.now.blocks.block_of base.now.blocks.labels draft.new) }
     ensures live { OnOk result (MembersHaveLabels (shown_blocks base.now draft.new) (at (shown_labels base.now draft.new))) }
     ensures parting { OnOk result (PartsTarget after.now target base.now draft.old draft.new
-        next.old.list.items next.new.list.items made.old.items made.new.items) }
+        next.old.list.items next.new.list.items new_blocks.old.items new_blocks.new.items) }
     ensures block_labels { OnOk result (LabelsRightAfter after.now target base.now draft.old draft.new) }
-    ensures made { OnOk result (AreBlocks (at (shown_labels base.now draft.new)) made.new.items) }
+    ensures new_blocks { OnOk result (AreBlocks (at (shown_labels base.now draft.new)) new_blocks.new.items) }
     ensures supports { OnOk result (AreEdgeCounts (graph_after after.now) (shown_blocks base.now draft.new) (shown_support base.now draft.new)) }
-    ensures charged { OnOk result (IsCharged made.old.items made.new.items steps.old steps.new) }
+    ensures charged { OnOk result (IsCharged new_blocks.old.items new_blocks.new.items steps.old steps.new) }
     ensures cost { steps.new ≤ steps.old + move_cost after.now target }
 {
     let own = own_block(base, draft, target);
@@ -93,7 +93,7 @@ fn part_one<L: Ledger>(
         return Ok(());
     }
     let b = draft_block(base, draft, after.label(target))?;
-    made.push(b)?;
+    new_blocks.push(b)?;
     move_node(base, draft, after, target, b, &mut next.neighbours, steps)?;
     next.add_children()?;
     Ok(())
@@ -107,25 +107,25 @@ fn part_all<L: Ledger>(
     draft: &mut Draft,
     after: &After<'_>,
     targets: &[NodeId],
-    made: &mut Vec<u32>,
+    new_blocks: &mut Vec<u32>,
     steps: &mut Steps<L>,
 ) -> Result<Vec<NodeId>, Memory>
-    requires split { CanSplit after.now base.now draft.old targets.now made.old.items }
+    requires split { CanSplit after.now base.now draft.old targets.now new_blocks.old.items }
     requires live { MembersHaveLabels (shown_blocks base.now draft.old) (at (shown_labels base.now draft.old)) }
     requires shape { IsShape (shape_of (graph_after after.now)) }
     requires nodes { (n : ℕ) → IsTrue (has targets.now n) → IsTrue (is_live (graph_after after.now) n) }
     ensures over { OnOk result (IsOver base.now.blocks.block_of base.now.blocks.labels draft.new) }
-    ensures split { IfOk result (λ next. SplitsInside after.now targets.now base.now draft.old draft.new next.items made.new.items) }
+    ensures split { IfOk result (λ next. SplitsInside after.now targets.now base.now draft.old draft.new next.items new_blocks.new.items) }
     ensures once { IfOk result (λ next. IsDistinct nat_eq next.items) }
     ensures block_labels { OnOk result (ShowsRightLabels after.now base.now draft.new) }
-    ensures made { OnOk result (AreBlocks (at (shown_labels base.now draft.new)) made.new.items) }
+    ensures new_blocks { OnOk result (AreBlocks (at (shown_labels base.now draft.new)) new_blocks.new.items) }
     ensures supports { OnOk result (AreEdgeCounts (graph_after after.now) (shown_blocks base.now draft.new) (shown_support base.now draft.new)) }
-    ensures charged { OnOk result (CostsPerBlock after.now targets.now made.new.items steps.old steps.new) }
+    ensures charged { OnOk result (CostsPerBlock after.now targets.now new_blocks.new.items steps.old steps.new) }
     ensures cost { steps.new ≤ steps.old + sum_by (move_cost after.now) targets.now }
 {
     let mut next = NextNodes::new(alloc);
     for t in targets {
-        part_one(base, draft, after, *t, made, &mut next, steps)?;
+        part_one(base, draft, after, *t, new_blocks, &mut next, steps)?;
     }
     sort_dedup(&mut next.list);
     Ok(next.list)
@@ -133,7 +133,7 @@ fn part_all<L: Ledger>(
 
 /// Splits blocks in the draft until the partition shown is stable on the graph after the change, where before it was
 /// stable except perhaps at the targets. Targets without a block are skipped, and each is listed once. The blocks that
-/// are made are put into `made`, which is empty before. Whatever set is closed under children and holds the targets,
+/// are made are put into `new_blocks`, which is empty before. Whatever set is closed under children and holds the targets,
 /// only its nodes are read and moved.
 ///
 /// It takes at most `4 * ((r + 1) * w)` steps, where the set has `r` nodes, and `w` is what the change costs at it: one for
@@ -148,23 +148,23 @@ pub fn split<L: Ledger>(
     draft: &mut Draft,
     after: &After<'_>,
     targets: &[NodeId],
-    made: &mut Vec<u32>,
+    new_blocks: &mut Vec<u32>,
     steps: &mut Steps<L>,
 ) -> Result<(), Memory>
-    requires { CanSplit after.now base.now draft.old targets.now made.old.items }
+    requires { CanSplit after.now base.now draft.old targets.now new_blocks.old.items }
     ensures over { OnOk result (IsOver base.now.blocks.block_of base.now.blocks.labels draft.new) }
     ensures block_labels { OnOk result (ShowsRightLabels after.now base.now draft.new) }
-    ensures split { OnOk result (SplitsInside after.now targets.now base.now draft.old draft.new [] made.new.items) }
-    ensures made { OnOk result ((b : ℕ) → IsTrue (has made.new.items b) → IsSome (at (shown_labels base.now draft.new) b)) }
+    ensures split { OnOk result (SplitsInside after.now targets.now base.now draft.old draft.new [] new_blocks.new.items) }
+    ensures new_blocks { OnOk result ((b : ℕ) → IsTrue (has new_blocks.new.items b) → IsSome (at (shown_labels base.now draft.new) b)) }
     ensures supports { OnOk result (AreEdgeCounts (graph_after after.now) (shown_blocks base.now draft.new) (shown_support base.now draft.new)) }
     ensures cost { CostsInside after.now targets.now steps.old steps.new }
 {
     let present = with_blocks(alloc, base, draft, targets)?;
     // Called for its contract: there is a graph, so that edges lead from nodes to nodes.
     let _known = after.created();
-    let mut next = part_all(alloc, base, draft, after, &present, made, steps)?;
+    let mut next = part_all(alloc, base, draft, after, &present, new_blocks, steps)?;
     'rounds: while !is_done(&next) {
-        next = round(alloc, base, draft, after, &next, made, steps)?;
+        next = round(alloc, base, draft, after, &next, new_blocks, steps)?;
     }
     Ok(())
 }

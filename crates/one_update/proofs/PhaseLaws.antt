@@ -133,14 +133,14 @@ pub targets_reached : (g : Graph) (c : List Step) (found : List ℕ) → ((n : �
 targets_reached g c found among n h = reach_start (shape_of (after c g)) (targets c g) n (among n h)
 
 -- the split clause of this change
-pub record HasSplit (g : Graph) (c : List Step) (found : List ℕ) (p1 p2 : List (Option ℕ)) (made : List ℕ) : Type 0 where
+pub record HasSplit (g : Graph) (c : List Step) (found : List ℕ) (p1 p2 : List (Option ℕ)) (new_blocks : List ℕ) : Type 0 where
   pub split : (inside : ℕ → Bool) → IsClosed (shape_of (after c g)) inside → ((n : ℕ) → IsTrue (has found n) → IsTrue (inside n))
-      → IsSplitInside (shape_of (after c g)) inside p1 p2 [] made
+      → IsSplitInside (shape_of (after c g)) inside p1 p2 [] new_blocks
 
-stages : (g : Graph) (c : List Step) (found : List ℕ) (q : Quotient) (d : Drafted) (p2 : List (Option ℕ)) (made : List ℕ) → IsGraph g → IsGraph (after c g) → FitsOne g (view_of q)
-    → AreUnsteady g c q.blocks.block_of found → ShowsChange g c q d → HasSplit g c found (shown_blocks q d) p2 made
-    → Stages (has found) (steady_part g c found) (shape_of (after c g)) q.blocks.block_of (shown_blocks q d) p2 made
-stages g c found q d p2 made graph graph2 fits are changed split =
+stages : (g : Graph) (c : List Step) (found : List ℕ) (q : Quotient) (d : Drafted) (p2 : List (Option ℕ)) (new_blocks : List ℕ) → IsGraph g → IsGraph (after c g) → FitsOne g (view_of q)
+    → AreUnsteady g c q.blocks.block_of found → ShowsChange g c q d → HasSplit g c found (shown_blocks q d) p2 new_blocks
+    → Stages (has found) (steady_part g c found) (shape_of (after c g)) q.blocks.block_of (shown_blocks q d) p2 new_blocks
+stages g c found q d p2 new_blocks graph graph2 fits are changed split =
     let s2 = shape_of (after c g) in
     record {
       shape = steady_shape g c found q graph fits are;
@@ -157,24 +157,24 @@ stages g c found q d p2 made graph graph2 fits are changed split =
 pub record HasMerge (p2 p3 : List (Option ℕ)) (labels : ℕ → Option ℕ) (support : ℕ → ℕ → ℕ) (merge_candidates : List ℕ) : Type 0 where
   pub merged : (s : Shape) → IsViewed s p2 labels (λ x y. nat_lt 0 (support x y)) → AreMergeCandidates s p2 (λ b. IsTrue (has merge_candidates b)) → IsMergedToEnd s p2 p3
 
-pub stepped : (g : Graph) (c : List Step) (found : List ℕ) (q : Quotient) (d d2 : Drafted) (p3 : List (Option ℕ)) (made merge_candidates : List ℕ) → IsGraph g → IsGraph (after c g)
-    → FitsOne g (view_of q) → AreUnsteady g c q.blocks.block_of found → ShowsChange g c q d → HasSplit g c found (shown_blocks q d) (shown_blocks q d2) made
+pub stepped : (g : Graph) (c : List Step) (found : List ℕ) (q : Quotient) (d d2 : Drafted) (p3 : List (Option ℕ)) (new_blocks merge_candidates : List ℕ) → IsGraph g → IsGraph (after c g)
+    → FitsOne g (view_of q) → AreUnsteady g c q.blocks.block_of found → ShowsChange g c q d → HasSplit g c found (shown_blocks q d) (shown_blocks q d2) new_blocks
     → BlocksHaveLabels (shown_blocks q d2) (at (shown_labels q d2)) (label_number (after c g)) → AreEdgeCounts (after c g) (shown_blocks q d2) (shown_support q d2)
-    → AreFirstCandidates (has found) (shown_blocks q d2) made merge_candidates → HasMerge (shown_blocks q d2) p3 (at (shown_labels q d2)) (shown_support q d2) merge_candidates
+    → AreFirstCandidates (has found) (shown_blocks q d2) new_blocks merge_candidates → HasMerge (shown_blocks q d2) p3 (at (shown_labels q d2)) (shown_support q d2) merge_candidates
     → (KeepsParents c (after c g) q.blocks.block_of → ⊥) → OneStep g q.blocks.block_of c (after c g) p3
-stepped g c found q d d2 p3 made merge_candidates graph graph2 fits are changed split block_labels supports added merge moves =
+stepped g c found q d d2 p3 new_blocks merge_candidates graph graph2 fits are changed split block_labels supports added merge moves =
     let s = steady_part g c found in
     let s2 = shape_of (after c g) in
     let p = q.blocks.block_of in
     let p1 = shown_blocks q d in
     let p2 = shown_blocks q d2 in
-    let ready = stages g c found q d p2 made graph graph2 fits are changed split in
-    let split_is = split_stable (has found) s s2 p p1 p2 made ready in
+    let ready = stages g c found q d p2 new_blocks graph graph2 fits are changed split in
+    let split_is = split_stable (has found) s s2 p p1 p2 new_blocks ready in
     let labelled = labelled_by_numbers (after c g) p2 (at (shown_labels q d2)) block_labels in
     let viewed = viewed_supports (after c g) p2 (at (shown_labels q d2)) (shown_support q d2) (λ x y. nat_lt 0 (shown_support q d2 x y)) ready.shape2 split_is labelled supports (λ x y. refl) in
-    let done = merge.merged s2 viewed (first_candidates (has found) s s2 p p1 p2 made merge_candidates ready added) in
+    let done = merge.merged s2 viewed (first_candidates (has found) s s2 p p1 p2 new_blocks merge_candidates ready added) in
     let stable = merges_stable s2 p2 p3 done.merges split_is in
-    let outside = outside_merges s s2 (IsOut s2 (has found)) p p2 p3 (outside_reach (has found) s s2 ready.shape2 ready.differs) (split_outside (has found) s s2 p p1 p2 made ready)
+    let outside = outside_merges s s2 (IsOut s2 (has found)) p p2 p3 (outside_reach (has found) s s2 ready.shape2 ready.differs) (split_outside (has found) s s2 p p1 p2 new_blocks ready)
     ready.stable ready.minimal done.merges in
     record {
       made = refl;

@@ -33,9 +33,9 @@ use Rattle.one_update.specs.OneDrafts.{AreTargets, KeepsUnreached, reached, roun
 use Rattle.one_update.proofs.PhaseLaws.{HasMerge, HasSplit, once_within, targets_reached}
 
 -- what the split clause says of the nodes that are reached
-pub split_reached : (g : Graph) (c : List Step) (list : List ℕ) (p p2 : List (Option ℕ)) (made : List ℕ) → IsGraph (after c g) → AreTargets g c list → HasSplit g c list p p2 made
-    → IsSplitInside (shape_of (after c g)) (reached g c) p p2 [] made
-split_reached g c list p p2 made graph2 are split =
+pub split_reached : (g : Graph) (c : List Step) (list : List ℕ) (p p2 : List (Option ℕ)) (new_blocks : List ℕ) → IsGraph (after c g) → AreTargets g c list → HasSplit g c list p p2 new_blocks
+    → IsSplitInside (shape_of (after c g)) (reached g c) p p2 [] new_blocks
+split_reached g c list p p2 new_blocks graph2 are split =
     split.split (reached g c) (reach_closed (shape_of (after c g)) (targets c g) (is_shape (after c g) graph2)) (targets_reached g c list (λ n h. sym (are.members n) ∙ h))
 
 -- nodes out of reach are together as in the base

@@ -48,8 +48,8 @@ pub fn split<L: Ledger>(
     // Called for its contract: there is a graph, so that what is reached is closed under edges.
     let _known = after.created();
     let targets = targets.list(alloc)?;
-    let mut made = Vec::new(alloc);
-    one_split::split(alloc, base, draft, after, &targets, &mut made, steps)?;
+    let mut new_blocks = Vec::new(alloc);
+    one_split::split(alloc, base, draft, after, &targets, &mut new_blocks, steps)?;
     Ok(())
 }
 

@@ -23,15 +23,15 @@ loop-i-preserved g c =
     let inv = c.loop-i.invariant in
     let ok = c.in_ok-move_one.ensures in
     let below : c.loop-i.i < length c.args.nodes.now = omega arith in
-    let is : c.target_block_of-goal.result ≡ target_block_at target_blocks (slice_index numbers i) = c.target_block_of-goal.ensures in
-    let moved : OneMoved (slice_index nodes i) c.target_block_of-goal.result q q2 = record { blocks = ok.moved } in
-    let listed : OneListed s (slice_index nodes i) c.target_block_of-goal.result c.loop-i.next.list.items c.move_one.new.next.list.items = record { members = ok.next } in
+    let is : c.target_block_of-target_block.result ≡ target_block_at target_blocks (slice_index numbers i) = c.target_block_of-target_block.ensures in
+    let moved : OneMoved (slice_index nodes i) c.target_block_of-target_block.result q q2 = record { blocks = ok.moved } in
+    let listed : OneListed s (slice_index nodes i) c.target_block_of-target_block.result c.loop-i.next.list.items c.move_one.new.next.list.items = record { members = ok.next } in
     let next = sum_next (move_cost c.args.after.now) nodes i 0 below in
     let so_far = inv.cost in
     let here = c.move_one.ensures.cost in
     record {
       over = ok.over;
-      partition = partition_moved s q q2 (slice_index nodes i) c.target_block_of-goal.result inv.partition (c.requires.nodes.there (slice_index nodes i) (has_place nodes i below)) ok.moved;
+      partition = partition_moved s q q2 (slice_index nodes i) c.target_block_of-target_block.result inv.partition (c.requires.nodes.there (slice_index nodes i) (has_place nodes i below)) ok.moved;
       gone = gone_more (shown_blocks c.args.base.now c.args.draft.now) q q2 nodes numbers target_blocks i c.requires.nodes.once below inv.gone (subst (λ o. OneMoved (slice_index nodes i) o q q2) is moved);
       next = next_more s nodes numbers target_blocks i c.loop-i.next.list.items c.move_one.new.next.list.items inv.next
           (subst (λ o. OneListed s (slice_index nodes i) o c.loop-i.next.list.items c.move_one.new.next.list.items) is listed);

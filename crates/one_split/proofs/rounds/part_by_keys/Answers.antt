@@ -81,12 +81,12 @@ returns-clause-round g c = record {
       let counts = c.in_ok-counts.counts.entries in
       let counted : AreCounted p nodes counts = record { once = c.requires.once; each = c.in_ok-counts.ensures } in
       let numbered = c.in_ok-numbers.ensures.numbered in
-      split_step s inside first p p2 keys nodes numbers c.args.made.now.items c.sort_dedup.new.numbers.items c.find_target_blocks.new.made.items target_blocks counts c.requires.shape closed split c.requires.once
+      split_step s inside first p p2 keys nodes numbers c.args.new_blocks.now.items c.sort_dedup.new.numbers.items c.find_target_blocks.new.new_blocks.items target_blocks counts c.requires.shape closed split c.requires.once
       c.in_ok-numbers.ensures.count numbered c.in_ok-target_blocks.ensures.count counted c.in_ok-target_blocks.ensures.going
       (subst (λ x. HaveGone x p2 nodes numbers target_blocks (length nodes)) c.in_ok-target_blocks.ensures.extends.stay c.in_ok-next.ensures.gone)
       (next_set s nodes numbers target_blocks (length nodes) c.in_ok-next.next.items c.sort_dedup.new.numbers.items (record { rising = c.sort_dedup.ensures.rising; same = c.sort_dedup.ensures.same })
       c.in_ok-next.ensures.next)
-      c.in_ok-target_blocks.ensures.from c.in_ok-target_blocks.ensures.made.once
+      c.in_ok-target_blocks.ensures.from c.in_ok-target_blocks.ensures.new_blocks.once
       (λ k h. let o = owns p (has_edge (graph_after c.args.after.now)) keys nodes numbers numbered k h in (o.0, o.1));
   once = set_distinct c.in_ok-next.next.items c.sort_dedup.new.numbers.items (record { rising = c.sort_dedup.ensures.rising; same = c.sort_dedup.ensures.same });
   block_labels = λ node_labels block_labels.
@@ -107,7 +107,7 @@ returns-clause-round g c = record {
   more =
       let s = shape_of (graph_after c.args.after.now) in
       let nodes = c.args.nodes.now in
-      more_or_none s nodes c.in_ok-numbers.numbers.items c.in_ok-target_blocks.target_blocks.items (length nodes) c.sort_dedup.new.numbers.items c.args.made.now.items c.find_target_blocks.new.made.items
+      more_or_none s nodes c.in_ok-numbers.numbers.items c.in_ok-target_blocks.target_blocks.items (length nodes) c.sort_dedup.new.numbers.items c.args.new_blocks.now.items c.find_target_blocks.new.new_blocks.items
       (next_set s nodes c.in_ok-numbers.numbers.items c.in_ok-target_blocks.target_blocks.items (length nodes) c.in_ok-next.next.items c.sort_dedup.new.numbers.items
       (record { rising = c.sort_dedup.ensures.rising; same = c.sort_dedup.ensures.same }) c.in_ok-next.ensures.next)
       c.in_ok-target_blocks.ensures.from;

@@ -33,9 +33,9 @@ returns-clause-round g c =
     let p = shown_blocks c.args.base.now c.args.draft.now in
     let is : c.deref.result.now ≡ filter (shares_block p) c.args.nodes.now = c.deref.ensures.value ∙ c.in_ok-kept.ensures in
     IfOk-weaker c.part_by_keys.result
-    (λ (next : Vec ℕ Global). IsRound c.args.after.now c.args.base.now c.args.draft.now c.part_by_keys.new.draft c.deref.result.now c.args.made.now.items c.part_by_keys.new.made.items next.items)
+    (λ (next : Vec ℕ Global). IsRound c.args.after.now c.args.base.now c.args.draft.now c.part_by_keys.new.draft c.deref.result.now c.args.new_blocks.now.items c.part_by_keys.new.new_blocks.items next.items)
     _
-    (λ next r. round_kept c.args.after.now c.args.base.now c.args.draft.now c.part_by_keys.new.draft c.args.nodes.now c.deref.result.now c.args.made.now.items c.part_by_keys.new.made.items next.items c.requires.shape is r)
+    (λ next r. round_kept c.args.after.now c.args.base.now c.args.draft.now c.part_by_keys.new.draft c.args.nodes.now c.deref.result.now c.args.new_blocks.now.items c.part_by_keys.new.new_blocks.items next.items c.requires.shape is r)
     c.part_by_keys.ensures.round
 
 pub returns-clause-cost : goal.returns-clause-cost

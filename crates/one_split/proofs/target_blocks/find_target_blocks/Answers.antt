@@ -36,22 +36,22 @@ loop-k-preserved c =
     let labels : ℕ → Option ℕ = at (shown_labels c.args.base.now c.loop-k.draft) in
     let labels2 : ℕ → Option ℕ = at (shown_labels c.args.base.now c.find_target_block.new.draft) in
     let inv = c.loop-k.invariant in
-    let ok = c.in_ok-goal.ensures in
+    let ok = c.in_ok-target_block.ensures in
     let own_is = c.own_number-own.result in
     let below : c.loop-k.k < length c.args.keys.now = omega arith in
     let own = c.requires.keys c.loop-k.k below in
     let is = begins_own keys c.loop-k.k own.0 own_is c.key.result.now own.1 c.key.ensures c.own_number-own.ensures in
     let ends : BeginsAt keys (length c.loop-k.target_blocks.items) own_is =
     subst (λ j. BeginsAt keys j own_is) (sym inv.count) (subst (BeginsAt keys c.loop-k.k) (sym is) own.1) in
-    let chosen : IsChosen p counts keys labels c.loop-k.target_blocks.items c.loop-k.stays.keys c.args.made.now.items c.loop-k.made.items =
-    record { going = inv.going; noted = inv.noted; blocks = inv.blocks; distinct = inv.made; from = inv.from } in
+    let chosen : IsChosen p counts keys labels c.loop-k.target_blocks.items c.loop-k.stays.keys c.args.new_blocks.now.items c.loop-k.new_blocks.items =
+    record { going = inv.going; noted = inv.noted; blocks = inv.blocks; distinct = inv.new_blocks; from = inv.from } in
     let next = choose_step p counts keys labels labels2 c.loop-k.target_blocks.items
-    own_is c.loop-k.stays.keys c.find_target_block.new.stays.keys c.args.made.now.items c.loop-k.made.items c.find_target_block.new.made.items c.in_ok-goal.goal
-    (subst (λ q. StaysIf q counts own_is c.loop-k.stays.keys c.find_target_block.new.stays.keys c.in_ok-goal.goal) inv.stay ok.stays)
-    (subst (λ q. GoesIf q labels labels2 counts own_is c.loop-k.stays.keys c.find_target_block.new.stays.keys c.in_ok-goal.goal) inv.stay ok.goes)
-    (λ x h. some_kept labels labels2 x ok.kept h) ok.made ends chosen in
-    let added : c.push.new.self.items ≡ c.loop-k.target_blocks.items ++ c.in_ok-goal.goal ∷ [] = c.in_ok-push.ensures.items in
-    let long = length-append c.loop-k.target_blocks.items (c.in_ok-goal.goal ∷ []) in
+    own_is c.loop-k.stays.keys c.find_target_block.new.stays.keys c.args.new_blocks.now.items c.loop-k.new_blocks.items c.find_target_block.new.new_blocks.items c.in_ok-target_block.target_block
+    (subst (λ q. StaysIf q counts own_is c.loop-k.stays.keys c.find_target_block.new.stays.keys c.in_ok-target_block.target_block) inv.stay ok.stays)
+    (subst (λ q. GoesIf q labels labels2 counts own_is c.loop-k.stays.keys c.find_target_block.new.stays.keys c.in_ok-target_block.target_block) inv.stay ok.goes)
+    (λ x h. some_kept labels labels2 x ok.kept h) ok.new_blocks ends chosen in
+    let added : c.push.new.self.items ≡ c.loop-k.target_blocks.items ++ c.in_ok-target_block.target_block ∷ [] = c.in_ok-push.ensures.items in
+    let long = length-append c.loop-k.target_blocks.items (c.in_ok-target_block.target_block ∷ []) in
     let longer = ap length added in
     let count = inv.count in
     record {
@@ -64,9 +64,9 @@ loop-k-preserved c =
       blocks = subst (λ gs. TargetBlocksExist gs labels2) (sym added) next.blocks;
       kept = record { kept = λ x d h. ok.kept.kept x d (inv.kept.kept x d h) };
       labels = subst (λ gs. TargetBlocksHaveLabels keys gs labels0 labels2) (sym added)
-          (labels_more keys c.loop-k.target_blocks.items c.in_ok-goal.goal labels0 labels labels2 own_is inv.labels inv.kept ok.kept ok.label ends);
-      made = next.distinct;
-      from = subst (λ gs. AreAdded gs c.args.made.now.items c.find_target_block.new.made.items) (sym added) next.from;
+          (labels_more keys c.loop-k.target_blocks.items c.in_ok-target_block.target_block labels0 labels labels2 own_is inv.labels inv.kept ok.kept ok.label ends);
+      new_blocks = next.distinct;
+      from = subst (λ gs. AreAdded gs c.args.new_blocks.now.items c.find_target_block.new.new_blocks.items) (sym added) next.from;
     }
 
 pub returns-clause-extends : goal.returns-clause-extends

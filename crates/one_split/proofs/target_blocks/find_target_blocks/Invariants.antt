@@ -17,6 +17,6 @@ invariant-loop-k l = record {
   blocks : TargetBlocksExist l.target_blocks.items (at (shown_labels l.base l.draft));
   kept : LabelsStay (at (shown_labels l.base l.initial.draft)) (at (shown_labels l.base l.draft));
   labels : TargetBlocksHaveLabels l.keys l.target_blocks.items (at (shown_labels l.base l.initial.draft)) (at (shown_labels l.base l.draft));
-  made : AreBlocks (at (shown_labels l.base l.draft)) l.made.items;
-  from : AreAdded l.target_blocks.items l.initial.made.items l.made.items;
+  new_blocks : AreBlocks (at (shown_labels l.base l.draft)) l.new_blocks.items;
+  from : AreAdded l.target_blocks.items l.initial.new_blocks.items l.new_blocks.items;
 }

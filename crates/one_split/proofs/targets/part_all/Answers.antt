@@ -19,11 +19,11 @@ loop-t-init g c = record {
   over = c.requires.split.over;
   live = c.requires.live;
   parting = λ inside closed within.
-      parting_first (shape_of (graph_after c.args.after.now)) inside (shown_blocks c.args.base.now c.args.draft.now) c.new-next.result.list.items c.args.made.now.items (λ n. has (drop 0 c.args.targets.now) n)
+      parting_first (shape_of (graph_after c.args.after.now)) inside (shown_blocks c.args.base.now c.args.draft.now) c.new-next.result.list.items c.args.new_blocks.now.items (λ n. has (drop 0 c.args.targets.now) n)
       c.new-next.ensures c.requires.split.none c.requires.split.stable;
   block_labels = c.requires.split.block_labels;
   supports = c.requires.split.supports;
-  made = blocks_none (at (shown_labels c.args.base.now c.args.draft.now)) c.args.made.now.items c.requires.split.none;
+  new_blocks = blocks_none (at (shown_labels c.args.base.now c.args.draft.now)) c.args.new_blocks.now.items c.requires.split.none;
   charged = λ w few. omega arith;
   cost = omega arith;
 }
@@ -64,9 +64,9 @@ loop-t-preserved g c =
           ok.parting inside (shown_blocks c.args.base.now c.args.draft.now) rest rest2 closed (within (slice_index targets i) there) first (inv.parting inside closed within);
       block_labels = ok.block_labels rest rest2 first inv.block_labels;
       supports = ok.supports;
-      made = ok.made;
+      new_blocks = ok.new_blocks;
       charged = λ w few.
-          charged_more w (length c.loop-t.made.items) (length c.part_one.new.made.items) c.args.steps.now c.loop-t.steps c.part_one.new.steps (move_cost c.args.after.now (slice_index targets i))
+          charged_more w (length c.loop-t.new_blocks.items) (length c.part_one.new.new_blocks.items) c.args.steps.now c.loop-t.steps c.part_one.new.steps (move_cost c.args.after.now (slice_index targets i))
           ok.charged (inv.charged w few) here (few (slice_index targets i) there);
       cost = omega (arith, next, so_far, here);
     }
@@ -74,7 +74,7 @@ loop-t-preserved g c =
 pub returns-clause-split : goal.returns-clause-split
 returns-clause-split g c = λ inside closed within.
     parting_done (shape_of (graph_after c.args.after.now)) inside (shown_blocks c.args.base.now c.args.draft.now) (shown_blocks c.args.base.now c.loop-t.draft) c.loop-t.next.list.items
-    c.sort_dedup.new.numbers.items (λ n. has (drop c.loop-t.t-index c.args.targets.now) n) c.loop-t.made.items (none_left c.args.targets.now c.loop-t.t-index (omega arith)) c.sort_dedup.ensures.same
+    c.sort_dedup.new.numbers.items (λ n. has (drop c.loop-t.t-index c.args.targets.now) n) c.loop-t.new_blocks.items (none_left c.args.targets.now c.loop-t.t-index (omega arith)) c.sort_dedup.ensures.same
     (c.loop-t.invariant.parting inside closed within)
 
 pub returns-clause-once : goal.returns-clause-once

@@ -20,10 +20,10 @@ invariant-loop-t g l = record {
   over : IsOver l.base.blocks.block_of l.base.blocks.labels l.draft;
   live : MembersHaveLabels (shown_blocks l.base l.draft) (at (shown_labels l.base l.draft));
   parting : (inside : ℕ → Bool) → IsClosed (shape_of (graph_after l.after)) inside → ((n : ℕ) → IsTrue (has l.targets n) → IsTrue (inside n))
-      → IsSplitBut (shape_of (graph_after l.after)) inside (shown_blocks l.base l.initial.draft) (shown_blocks l.base l.draft) l.next.list.items (λ n. has (drop l.t-index l.targets) n) l.made.items;
+      → IsSplitBut (shape_of (graph_after l.after)) inside (shown_blocks l.base l.initial.draft) (shown_blocks l.base l.draft) l.next.list.items (λ n. has (drop l.t-index l.targets) n) l.new_blocks.items;
   block_labels : BlocksHaveLabelsBut (λ n. has (drop l.t-index l.targets) n) (shown_blocks l.base l.draft) (at (shown_labels l.base l.draft)) (label_number (graph_after l.after));
   supports : AreEdgeCounts (graph_after l.after) (shown_blocks l.base l.draft) (shown_support l.base l.draft);
-  made : AreBlocks (at (shown_labels l.base l.draft)) l.made.items;
-  charged : (w : ℕ) → ((n : ℕ) → IsTrue (has l.targets n) → move_cost l.after n ≤ w) → l.steps ≤ l.initial.steps + length l.made.items * w;
+  new_blocks : AreBlocks (at (shown_labels l.base l.draft)) l.new_blocks.items;
+  charged : (w : ℕ) → ((n : ℕ) → IsTrue (has l.targets n) → move_cost l.after n ≤ w) → l.steps ≤ l.initial.steps + length l.new_blocks.items * w;
   cost : l.steps ≤ l.initial.steps + sum_by (move_cost l.after) (take l.t-index l.targets);
 }

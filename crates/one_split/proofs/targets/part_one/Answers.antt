@@ -17,7 +17,7 @@ use Rattle.one_split.proofs.targets.part_one.Goals as goal
 pub returns-then-is_apart-clause-parting : goal.returns-then-is_apart-clause-parting
 returns-then-is_apart-clause-parting g c = λ inside first rest rest2 closed within is_first a.
     let p = shown_blocks c.args.base.now c.args.draft.now in
-    part_stays (shape_of (graph_after c.args.after.now)) inside first p c.args.next.now.list.items rest rest2 c.args.made.now.items c.args.target c.requires.shown.shape
+    part_stays (shape_of (graph_after c.args.after.now)) inside first p c.args.next.now.list.items rest rest2 c.args.new_blocks.now.items c.args.target c.requires.shown.shape
     (alone_from p c.args.target c.own_block-own.result c.own_block-own.ensures (c.is_apart.ensures.alone c.if-is_apart.true)) is_first a
 
 pub returns-then-is_apart-clause-block_labels : goal.returns-then-is_apart-clause-block_labels
@@ -37,15 +37,15 @@ move_node-requires-clause-supports g c =
     subst (λ p. AreEdgeCounts (graph_after c.args.after.now) p (shown_support c.args.base.now c.draft_block.new.draft)) (sym c.in_ok-b.ensures.stay)
     (record { each = λ x y. c.in_ok-b.ensures.supports x y ∙ c.requires.shown.supports.each x y })
 
-pub returns-clause-made : goal.returns-clause-made
-returns-clause-made g c =
+pub returns-clause-new_blocks : goal.returns-clause-new_blocks
+returns-clause-new_blocks g c =
     let labels : ℕ → Option ℕ = at (shown_labels c.args.base.now c.args.draft.now) in
     let labels2 : ℕ → Option ℕ = at (shown_labels c.args.base.now c.draft_block.new.draft) in
     let same : shown_labels c.args.base.now c.move_node.new.draft ≡ shown_labels c.args.base.now c.draft_block.new.draft = ap (with_added c.args.base.now.blocks.labels) c.move_node.ensures.added in
     let keep = labels_kept labels labels2 c.in_ok-b.b c.label.result c.in_ok-b.ensures.free c.in_ok-b.ensures.told in
     let some = is_some_at (labels2 c.in_ok-b.b) c.label.result (told_some labels labels2 c.in_ok-b.b c.label.result c.in_ok-b.ensures.told) in
     subst (λ (ls : List (Option ℕ)). AreBlocks (at ls) c.push.new.self.items) (sym same)
-    (blocks_more labels labels2 c.args.made.now.items c.push.new.self.items c.in_ok-b.b c.requires.made c.in_ok-b.ensures.free keep some c.in_ok-push.ensures.items)
+    (blocks_more labels labels2 c.args.new_blocks.now.items c.push.new.self.items c.in_ok-b.b c.requires.new_blocks c.in_ok-b.ensures.free keep some c.in_ok-push.ensures.items)
 
 pub returns-clause-parting : goal.returns-clause-parting
 returns-clause-parting g c = λ inside first rest rest2 closed within is_first a.
@@ -56,8 +56,8 @@ returns-clause-parting g c = λ inside first rest rest2 closed within is_first a
     let labels2 : ℕ → Option ℕ = at (shown_labels c.args.base.now c.draft_block.new.draft) in
     let keep = labels_kept labels labels2 c.in_ok-b.b c.label.result c.in_ok-b.ensures.free c.in_ok-b.ensures.told in
     let some = is_some_at (labels2 c.in_ok-b.b) c.label.result (told_some labels labels2 c.in_ok-b.b c.label.result c.in_ok-b.ensures.told) in
-    let blocks = blocks_more labels labels2 c.args.made.now.items c.push.new.self.items c.in_ok-b.b c.requires.made c.in_ok-b.ensures.free keep some c.in_ok-push.ensures.items in
-    part_moves s inside first p p2 c.args.next.now.list.items c.add_children.new.self.list.items rest rest2 c.args.made.now.items c.push.new.self.items c.args.target c.in_ok-b.b c.requires.shown.shape closed within
+    let blocks = blocks_more labels labels2 c.args.new_blocks.now.items c.push.new.self.items c.in_ok-b.b c.requires.new_blocks c.in_ok-b.ensures.free keep some c.in_ok-push.ensures.items in
+    part_moves s inside first p p2 c.args.next.now.list.items c.add_children.new.self.list.items rest rest2 c.args.new_blocks.now.items c.push.new.self.items c.args.target c.in_ok-b.b c.requires.shown.shape closed within
     c.requires.node (apart_from p (shown_blocks c.args.base.now c.draft_block.new.draft) p2 c.args.target c.in_ok-b.b c.in_ok-b.ensures.empty c.in_ok-b.ensures.stay c.in_ok-move_node.ensures.moved)
     (children_more s c.args.target c.args.next.now.list.items c.add_children.new.self.list.items c.move_node.new.neighbours c.in_ok-move_node.ensures.children c.in_ok-add_children.ensures.list) c.in_ok-push.ensures.items blocks.once is_first a
 

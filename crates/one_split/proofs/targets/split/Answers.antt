@@ -12,7 +12,7 @@ use Rattle.graph_update.specs.PendingChanges.{graph_after}
 use Rattle.quotient_draft.specs.Drafts.{shown_blocks, shown_labels}
 use Rattle.one_split.specs.SplitCosts.{round_cost}
 use Rattle.one_split.proofs.Bounds.{sound_of, moves_most}
-use Rattle.one_split.proofs.Total.{closed_all, made_few, most_done, cost_more, most_within, round_within, left_falls, few_nodes, not_done}
+use Rattle.one_split.proofs.Total.{closed_all, new_few, most_done, cost_more, most_within, round_within, left_falls, few_nodes, not_done}
 use Rattle.one_split.proofs.Light.{target_most, light_within, cost_charged}
 use Rattle.one_split.proofs.Present.{ArePresent, node_present, target_present, stable_present, block_labels_present}
 use Rattle.one_split.proofs.targets.split.Goals as goal
@@ -65,12 +65,12 @@ rounds-init g c =
       once = c.in_ok-next.ensures.once;
       block_labels = c.in_ok-next.ensures.block_labels;
       supports = c.in_ok-next.ensures.supports;
-      made = c.in_ok-next.ensures.made;
+      new_blocks = c.in_ok-next.ensures.new_blocks;
       cost = λ inside closed within.
           let spent = c.in_ok-next.ensures.charged (3 * cost c.args.after.now.change c.args.after.now.before inside) (λ n h.
           target_most c.args.after.now inside n (sound_of c.args.after.now c.created-known.ensures.new c.created-known.ensures.before c.created-known.ensures.after) (node_present s p (has c.args.targets.now) (has nodes) n present c.requires.stable.partition h)
           (within n (target_present p (has c.args.targets.now) (has nodes) n present h))) in
-          cost_charged (cost c.args.after.now.change c.args.after.now.before inside) (length c.part_all.new.made.items) (c.part_all.new.steps - c.args.steps.now) c.in_ok-next.next.items (omega (arith, spent));
+          cost_charged (cost c.args.after.now.change c.args.after.now.before inside) (length c.part_all.new.new_blocks.items) (c.part_all.new.steps - c.args.steps.now) c.in_ok-next.next.items (omega (arith, spent));
     }
 
 pub round-requires : goal.round-requires
@@ -84,7 +84,7 @@ round-requires g c =
       shape = is_shape (graph_after c.args.after.now) c.created-known.ensures.after;
       partition = every.stable.partition;
       once = subst (IsDistinct nat_eq) (sym next_is) c.rounds.invariant.once;
-      blocks = c.rounds.invariant.made;
+      blocks = c.rounds.invariant.new_blocks;
       supports = c.rounds.invariant.supports;
     }
 
@@ -96,18 +96,18 @@ returns-in_err-next-2-clause-cost g c = λ inside closed within.
     let first = shown_blocks c.args.base.now c.args.draft.now in
     let p = shown_blocks c.args.base.now c.rounds.draft in
     let next = c.rounds.next.items in
-    let made = c.rounds.made.items in
+    let new_blocks = c.rounds.new_blocks.items in
     let inv = c.rounds.invariant in
-    let split : IsSplitInside s inside first p next made = inv.split inside closed within in
+    let split : IsSplitInside s inside first p next new_blocks = inv.split inside closed within in
     let next_is : c.deref-in-rounds-2.result.now ≡ c.rounds.next.items = c.deref-in-rounds-2.ensures.value in
     let test : c.is_done.result ≡ false = search rules in
     let some = not_done c.is_done.result c.deref-in-rounds.result.now next c.is_done.ensures test c.deref-in-rounds.ensures.value in
     let sound = sound_of a c.created-known.ensures.new c.created-known.ensures.before c.created-known.ensures.after in
-    let most = round_within a inside first p next made sound inv.once split in
+    let most = round_within a inside first p next new_blocks sound inv.once split in
     let took = c.round.ensures.cost in
     let alike = ap (sum_by (round_cost a)) next_is in
-    let fit = most_within (size_of s inside) (cost a.change a.before inside) (length made) (c.rounds.steps - c.args.steps.now) (c.round.new.steps - c.args.steps.now) (sum_by (round_cost a) next) next
-    (inv.cost inside closed within) some (made_few s inside first p next made shape split) most
+    let fit = most_within (size_of s inside) (cost a.change a.before inside) (length new_blocks) (c.rounds.steps - c.args.steps.now) (c.round.new.steps - c.args.steps.now) (sum_by (round_cost a) next) next
+    (inv.cost inside closed within) some (new_few s inside first p next new_blocks shape split) most
     (omega (arith, took, alike)) in
     omega (arith, fit)
 
@@ -119,7 +119,7 @@ rounds-preserved g c =
     let first = shown_blocks c.args.base.now c.args.draft.now in
     let p = shown_blocks c.args.base.now c.rounds.draft in
     let next = c.rounds.next.items in
-    let made = c.rounds.made.items in
+    let new_blocks = c.rounds.new_blocks.items in
     let inv = c.rounds.invariant in
     let next_is : c.deref-in-rounds-2.result.now ≡ c.rounds.next.items = c.deref-in-rounds-2.ensures.value in
     let test : c.is_done.result ≡ false = search rules in
@@ -129,16 +129,16 @@ rounds-preserved g c =
     record {
       over = c.in_ok-next-2.ensures.round.over;
       split = λ inside closed within.
-          c.in_ok-next-2.ensures.round.split inside first closed (subst (λ xs. IsSplitInside s inside first p xs made) (sym next_is) (inv.split inside closed within));
+          c.in_ok-next-2.ensures.round.split inside first closed (subst (λ xs. IsSplitInside s inside first p xs new_blocks) (sym next_is) (inv.split inside closed within));
       once = c.in_ok-next-2.ensures.round.once;
       block_labels = c.in_ok-next-2.ensures.round.block_labels (label_number (graph_after c.args.after.now)) inv.block_labels;
       supports = c.in_ok-next-2.ensures.round.supports;
-      made = c.in_ok-next-2.ensures.round.blocks;
+      new_blocks = c.in_ok-next-2.ensures.round.blocks;
       cost = λ inside closed within.
-          let split : IsSplitInside s inside first p next made = inv.split inside closed within in
-          cost_more (cost a.change a.before inside) (length made) (length c.round.new.made.items) (c.rounds.steps - c.args.steps.now) (c.round.new.steps - c.args.steps.now) (sum_by (round_cost a) next)
+          let split : IsSplitInside s inside first p next new_blocks = inv.split inside closed within in
+          cost_more (cost a.change a.before inside) (length new_blocks) (length c.round.new.new_blocks.items) (c.rounds.steps - c.args.steps.now) (c.round.new.steps - c.args.steps.now) (sum_by (round_cost a) next)
           next c.in_ok-next-2.next.items (inv.cost inside closed within) some
-          (round_within a inside first p next made (sound_of a c.created-known.ensures.new c.created-known.ensures.before c.created-known.ensures.after) inv.once split) (omega (arith, took, alike)) c.in_ok-next-2.ensures.round.least c.in_ok-next-2.ensures.round.more;
+          (round_within a inside first p next new_blocks (sound_of a c.created-known.ensures.new c.created-known.ensures.before c.created-known.ensures.after) inv.once split) (omega (arith, took, alike)) c.in_ok-next-2.ensures.round.least c.in_ok-next-2.ensures.round.more;
     }
 
 pub rounds-smaller : goal.rounds-smaller
@@ -153,12 +153,12 @@ rounds-smaller g c =
     let some = not_done c.is_done.result c.deref-in-rounds.result.now c.rounds.next.items c.is_done.ensures test c.deref-in-rounds.ensures.value in
     let every : ℕ → Bool = λ m. true in
     let split = c.in_ok-next-2.ensures.round.split every first (closed_all s)
-    (subst (λ xs. IsSplitInside s every first p xs c.rounds.made.items) (sym next_is) (inv.split every (closed_all s) (λ n h. refl))) in
-    let few = made_few s every first (shown_blocks c.args.base.now c.round.new.draft) c.in_ok-next-2.next.items c.round.new.made.items shape split in
+    (subst (λ xs. IsSplitInside s every first p xs c.rounds.new_blocks.items) (sym next_is) (inv.split every (closed_all s) (λ n h. refl))) in
+    let few = new_few s every first (shown_blocks c.args.base.now c.round.new.draft) c.in_ok-next-2.next.items c.round.new.new_blocks.items shape split in
     let nodes = few_nodes s every in
-    let more : (length c.rounds.made.items < length c.round.new.made.items) ⊎ (length c.in_ok-next-2.next.items ≡ 0) =
+    let more : (length c.rounds.new_blocks.items < length c.round.new.new_blocks.items) ⊎ (length c.in_ok-next-2.next.items ≡ 0) =
     elim c.in_ok-next-2.ensures.round.more [ inl grew ↦ inl grew | inr none ↦ inr (ap length none) ] in
-    left_falls (length (graph_after c.args.after.now).allocated) (length c.rounds.made.items) (length c.round.new.made.items) (length c.rounds.next.items) (length c.in_ok-next-2.next.items)
+    left_falls (length (graph_after c.args.after.now).allocated) (length c.rounds.new_blocks.items) (length c.round.new.new_blocks.items) (length c.rounds.next.items) (length c.in_ok-next-2.next.items)
     (omega (arith, few, nodes)) c.in_ok-next-2.ensures.round.least some more
 
 pub returns-clause-cost : goal.returns-clause-cost
@@ -167,7 +167,7 @@ returns-clause-cost g c = λ inside closed within.
     let shape = is_shape (graph_after c.args.after.now) c.created-known.ensures.after in
     let inv = c.rounds.invariant in
     let split = inv.split inside closed within in
-    let fit = most_done (size_of s inside) (cost c.args.after.now.change c.args.after.now.before inside) (length c.rounds.made.items) (c.rounds.steps - c.args.steps.now) c.rounds.next.items
-    (made_few s inside (shown_blocks c.args.base.now c.args.draft.now) (shown_blocks c.args.base.now c.rounds.draft) c.rounds.next.items c.rounds.made.items shape split)
+    let fit = most_done (size_of s inside) (cost c.args.after.now.change c.args.after.now.before inside) (length c.rounds.new_blocks.items) (c.rounds.steps - c.args.steps.now) c.rounds.next.items
+    (new_few s inside (shown_blocks c.args.base.now c.args.draft.now) (shown_blocks c.args.base.now c.rounds.draft) c.rounds.next.items c.rounds.new_blocks.items shape split)
     (inv.cost inside closed within) in
     omega (arith, fit)

@@ -18,7 +18,7 @@ split-requires g c =
       once = are.once;
       stable = shown.stable;
       block_labels = shown.block_labels;
-      none = c.new-made.ensures.items;
+      none = c.new-new_blocks.ensures.items;
       supports = shown.supports;
     }
 
@@ -42,7 +42,7 @@ returns-clause-shown g c =
       stable =
           let p2 = shown_blocks c.args.base.now c.split.new.draft in
           stable_at_end (shape_of (graph_after c.args.after.now)) p2 (has []) (λ n. refl)
-          (split_reached c.args.after.now.before c.args.after.now.change c.deref.result.now (shown_blocks c.args.base.now c.args.draft.now) p2 c.split.new.made.items c.created-known.ensures.after
+          (split_reached c.args.after.now.before c.args.after.now.change c.deref.result.now (shown_blocks c.args.base.now c.args.draft.now) p2 c.split.new.new_blocks.items c.created-known.ensures.after
           are (record { split = c.in_ok-split.ensures.split })).stable;
       block_labels = c.in_ok-split.ensures.block_labels;
       supports = c.in_ok-split.ensures.supports;
@@ -52,13 +52,13 @@ pub returns-clause-within : goal.returns-clause-within
 returns-clause-within g c =
     let are = subst (AreTargets c.args.after.now.before c.args.after.now.change) (sym (c.deref.ensures.value ∙ c.in_ok-targets.ensures)) c.requires.targets in
     (split_reached c.args.after.now.before c.args.after.now.change c.deref.result.now (shown_blocks c.args.base.now c.args.draft.now) (shown_blocks c.args.base.now c.split.new.draft)
-    c.split.new.made.items c.created-known.ensures.after are (record { split = c.in_ok-split.ensures.split })).within
+    c.split.new.new_blocks.items c.created-known.ensures.after are (record { split = c.in_ok-split.ensures.split })).within
 
 pub returns-clause-same : goal.returns-clause-same
 returns-clause-same g c =
     let are = subst (AreTargets c.args.after.now.before c.args.after.now.change) (sym (c.deref.ensures.value ∙ c.in_ok-targets.ensures)) c.requires.targets in
     (split_reached c.args.after.now.before c.args.after.now.change c.deref.result.now (shown_blocks c.args.base.now c.args.draft.now) (shown_blocks c.args.base.now c.split.new.draft)
-    c.split.new.made.items c.created-known.ensures.after are (record { split = c.in_ok-split.ensures.split })).same
+    c.split.new.new_blocks.items c.created-known.ensures.after are (record { split = c.in_ok-split.ensures.split })).same
 
 pub returns-clause-split : goal.returns-clause-split
 returns-clause-split g c =
@@ -67,4 +67,4 @@ returns-clause-split g c =
     split_of c.args.after.now.before c.args.after.now.change c.args.base.now.blocks.block_of (shown_blocks c.args.base.now c.args.draft.now) (shown_blocks c.args.base.now c.split.new.draft)
     old.stable old.minimal old.keeps
     (split_reached c.args.after.now.before c.args.after.now.change c.deref.result.now (shown_blocks c.args.base.now c.args.draft.now) (shown_blocks c.args.base.now c.split.new.draft)
-    c.split.new.made.items c.created-known.ensures.after are (record { split = c.in_ok-split.ensures.split })).same
+    c.split.new.new_blocks.items c.created-known.ensures.after are (record { split = c.in_ok-split.ensures.split })).same

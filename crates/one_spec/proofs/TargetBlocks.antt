@@ -11,7 +11,7 @@ use Rattle.bisim_spec.proofs.Together.{together_sym}
 use Rattle.one_spec.specs.SplitRoundSteps.{MayStayTogether, IsSplitRound, IsRefinement, AreTargetBlocks}
 
 abbrev pub is_moved : (ℕ → Option ℕ) → ℕ → Bool
-is_moved goal n = is_some (goal n)
+is_moved target_block n = is_some (target_block n)
 
 none_of : (o : Option ℕ) → is_some o ≡ false → o ≡ None
 none_of None h = refl
@@ -22,17 +22,17 @@ data Came (s : Shape) (p : List (Option ℕ)) (looked : ℕ → Bool) (u v : ℕ
   grouped : Together p u v → MayStayTogether s p u v → Came s p looked u v
   rested : Together p u v → IsFalse (looked u) → IsFalse (looked v) → Came s p looked u v
 
-came : (s : Shape) (p p2 : List (Option ℕ)) (looked : ℕ → Bool) (group : ℕ → ℕ) (goal : ℕ → Option ℕ) → AreTargetBlocks s p p2 looked group goal
+came : (s : Shape) (p p2 : List (Option ℕ)) (looked : ℕ → Bool) (group : ℕ → ℕ) (target_block : ℕ → Option ℕ) → AreTargetBlocks s p p2 looked group target_block
     → (u v : ℕ) → Together p2 u v → Came s p looked u v
-came s p p2 looked group goal g u v (b, bu, bv) = elim (none_or_some (goal u)) [
-  | inr (c, cu) ↦ elim (none_or_some (goal v)) [
+came s p p2 looked group target_block g u v (b, bu, bv) = elim (none_or_some (target_block u)) [
+  | inr (c, cu) ↦ elim (none_or_some (target_block v)) [
     | inr (d, dv) ↦ (
         let e : Some d ≡ Some c = sym (g.moved v d dv) ∙ bv ∙ sym bu ∙ g.moved u c cu in
         let same = g.tells u v c cu (dv ∙ e) in
         grouped (g.together u v (g.only u c cu) (g.only v d dv) same) (g.alike u v (g.only u c cu) (g.only v d dv) same))
     | inl nv ↦ absurd (g.fresh u v c cu (sym (g.kept v nv) ∙ bv ∙ sym bu ∙ g.moved u c cu))
   ]
-  | inl nu ↦ elim (none_or_some (goal v)) [
+  | inl nu ↦ elim (none_or_some (target_block v)) [
     | inr (d, dv) ↦ absurd (g.fresh v u d dv (sym (g.kept u nu) ∙ bu ∙ sym bv ∙ g.moved v d dv))
     | inl nv ↦ (
         let t : Together p u v = (b, sym (g.kept u nu) ∙ bu, sym (g.kept v nv) ∙ bv) in
@@ -49,15 +49,15 @@ came s p p2 looked group goal g u v (b, bu, bv) = elim (none_or_some (goal u)) [
   ]
 ]
 
-pub target_blocks_within : (s : Shape) (p p2 : List (Option ℕ)) (looked : ℕ → Bool) (group : ℕ → ℕ) (goal : ℕ → Option ℕ) → AreTargetBlocks s p p2 looked group goal → IsRefinement p p2
-target_blocks_within s p p2 looked group goal g = record { within = λ u v t. elim (came s p p2 looked group goal g u v t) [ grouped k a ↦ k | rested k fu fv ↦ k ] }
+pub target_blocks_within : (s : Shape) (p p2 : List (Option ℕ)) (looked : ℕ → Bool) (group : ℕ → ℕ) (target_block : ℕ → Option ℕ) → AreTargetBlocks s p p2 looked group target_block → IsRefinement p p2
+target_blocks_within s p p2 looked group target_block g = record { within = λ u v t. elim (came s p p2 looked group target_block g u v t) [ grouped k a ↦ k | rested k fu fv ↦ k ] }
 
 -- a round, where the partition was stable but maybe at the nodes that are looked at
-pub target_blocks_round : (s : Shape) (p p2 : List (Option ℕ)) (looked : ℕ → Bool) (group : ℕ → ℕ) (goal : ℕ → Option ℕ) (next : ℕ → Bool) → StableBut s p looked
-    → AreTargetBlocks s p p2 looked group goal → ((q n : ℕ) → IsTrue (is_moved goal q) → IsParent s q n → IsTrue (next n)) → IsSplitRound s p p2 (is_moved goal) next
-target_blocks_round s p p2 looked group goal next st g children = record {
-  kept = λ n h. g.kept n (none_of (goal n) h);
-  parted = λ u v t. elim (came s p p2 looked group goal g u v t) [
+pub target_blocks_round : (s : Shape) (p p2 : List (Option ℕ)) (looked : ℕ → Bool) (group : ℕ → ℕ) (target_block : ℕ → Option ℕ) (next : ℕ → Bool) → StableBut s p looked
+    → AreTargetBlocks s p p2 looked group target_block → ((q n : ℕ) → IsTrue (is_moved target_block q) → IsParent s q n → IsTrue (next n)) → IsSplitRound s p p2 (is_moved target_block) next
+target_blocks_round s p p2 looked group target_block next st g children = record {
+  kept = λ n h. g.kept n (none_of (target_block n) h);
+  parted = λ u v t. elim (came s p p2 looked group target_block g u v t) [
     | grouped k a ↦ a
     | rested k fu fv ↦ record { label = st.label u v fu fv k; parents = st.parents u v fu fv k }
   ];
@@ -65,23 +65,23 @@ target_blocks_round s p p2 looked group goal next st g children = record {
 }
 
 -- nodes have blocks as before
-pub target_blocks_partition : (s : Shape) (p p2 : List (Option ℕ)) (looked : ℕ → Bool) (group : ℕ → ℕ) (goal : ℕ → Option ℕ) → AreTargetBlocks s p p2 looked group goal
+pub target_blocks_partition : (s : Shape) (p p2 : List (Option ℕ)) (looked : ℕ → Bool) (group : ℕ → ℕ) (target_block : ℕ → Option ℕ) → AreTargetBlocks s p p2 looked group target_block
     → ((n : ℕ) → IsTrue (looked n) → IsNode s n) → IsPartition s p → IsPartition s p2
-target_blocks_partition s p p2 looked group goal g nodes partition = record {
-  live = λ n h. elim (none_or_some (goal n)) [
+target_blocks_partition s p p2 looked group target_block g nodes partition = record {
+  live = λ n h. elim (none_or_some (target_block n)) [
     | inl none ↦ ap is_some (g.kept n none) ∙ partition.live n h
     | inr (b, some) ↦ is_some_at (at p2 n) b (g.moved n b some)
   ];
-  only = λ n h. elim (none_or_some (goal n)) [
+  only = λ n h. elim (none_or_some (target_block n)) [
     | inl none ↦ partition.only n (sym (ap is_some (g.kept n none)) ∙ h)
     | inr (b, some) ↦ nodes n (g.only n b some)
   ];
 }
 
 -- a block with members has some still
-pub target_blocks_left : (s : Shape) (p p2 : List (Option ℕ)) (looked : ℕ → Bool) (group : ℕ → ℕ) (goal : ℕ → Option ℕ) → AreTargetBlocks s p p2 looked group goal
+pub target_blocks_left : (s : Shape) (p p2 : List (Option ℕ)) (looked : ℕ → Bool) (group : ℕ → ℕ) (target_block : ℕ → Option ℕ) → AreTargetBlocks s p p2 looked group target_block
     → (n b : ℕ) → at p n ≡ Some b → (m : ℕ) × Together p n m × (at p2 m ≡ Some b)
-target_blocks_left s p p2 looked group goal g n b e = elim (none_or_some (goal n)) [
+target_blocks_left s p p2 looked group target_block g n b e = elim (none_or_some (target_block n)) [
   | inl none ↦ (n, (b, e, e), g.kept n none ∙ e)
   | inr (c, some) ↦ (
       let m = g.left n c some in
