@@ -8,9 +8,9 @@ use Rattle.clap.specs.declared.error.Error.{Error}
 use Rattle.clap.specs.declared.error.kind.ErrorKind.TheVariants.{OutOfMemory}
 use Rattle.clap.specs.declared.parser.matches.ArgMatches.{ArgMatches}
 use Rattle.clap.proofs.OnLiterals.{clap_on_literals}
-use Rattle.command_line.specs.FormValues.{Matches, given_value}
-use Rattle.command_line.specs.Words.{command, given_in, is_accepted, is_no_fault, read}
-use Rattle.command_line.specs.declared.given.Given.{Given as GivenSeen}
+use Rattle.command_line.specs.FormValues.{Matches, arguments_value}
+use Rattle.command_line.specs.Words.{command, arguments_in, is_accepted, is_no_fault, read}
+use Rattle.command_line.specs.declared.arguments.Arguments.{Arguments as ArgumentsSeen}
 
 -- ---- clap's definitions are for this command
 
@@ -47,14 +47,14 @@ refused a words e same kind other =
 
 -- ---- what is gathered from the matches is what is read
 
-read_by : (words : List (List ℕ)) (b : Bool) → is_accepted words ≡ b → (if b then Some (given_in (matches_of command words)) else None) ≡ read words
-read_by words b is = ap (λ t. if t then Some (given_in (matches_of command words)) else None) (sym is)
+read_by : (words : List (List ℕ)) (b : Bool) → is_accepted words ≡ b → (if b then Some (arguments_in (matches_of command words)) else None) ≡ read words
+read_by words b is = ap (λ t. if t then Some (arguments_in (matches_of command words)) else None) (sym is)
 
-pub gathered : (words : List (List ℕ)) (o : Option ArgMatches) (m : ArgMatches) (g : GivenSeen) → o ≡ Some m → Matches words o
-    → given_value g ≡ given_in (rows_of (found_of m)) → Some (given_value g) ≡ read words
-gathered words o m g is found given =
+pub gathered : (words : List (List ℕ)) (o : Option ArgMatches) (m : ArgMatches) (g : ArgumentsSeen) → o ≡ Some m → Matches words o
+    → arguments_value g ≡ arguments_in (rows_of (found_of m)) → Some (arguments_value g) ≡ read words
+gathered words o m g is found arguments =
     let f : Matches words (Some m) = rw is at found in
-    ap Some (given ∙ ap given_in f.1) ∙ read_by words true f.0
+    ap Some (arguments ∙ ap arguments_in f.1) ∙ read_by words true f.0
 
 pub not_gathered : (words : List (List ℕ)) (o : Option ArgMatches) → o ≡ None → Matches words o → None ≡ read words
 not_gathered words o is found =

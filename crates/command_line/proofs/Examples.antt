@@ -2,7 +2,7 @@
 use Rattle.std.proofs.Common.{◌≡◌, ◌∙◌, ℕ, List, [], ◌∷◌, Option, Some, None, true, false, codes, refl, ap}
 use Rattle.clap.proofs.OnLiterals.{clap_on_literals}
 use Rattle.command_line.specs.Forms.{Form, makes, checks, neither, runs}
-use Rattle.command_line.specs.Givens.{level_of, make_with, run_with, seed_of}
+use Rattle.command_line.specs.Arguments.{level_of, make_with, run_with, seed_of}
 use Rattle.command_line.specs.Usage.{IsPlainText, of_script, of_seed, of_check}
 use Rattle.command_line.specs.Words.{form_of, form_read}
 use Rattle.command_line.proofs.Marks.{read_marked}

@@ -1,7 +1,7 @@
 -- The level of a form, where there is one, is at most 8.
 use Rattle.std.proofs.Common.{◌≡◌, ◌≤◌, ◌||◌, ℕ, Bool, List, [], ◌∷◌, Option, Some, None, true, false, is_some, if◌then◌else◌, refl, arith, rules}
 use Rattle.command_line.specs.Forms.{HasLevel, checks, neither}
-use Rattle.command_line.specs.Givens.{Given, form_beside, form_with, has_others, level_of, level_or_default, make_with, run_with, seed_of}
+use Rattle.command_line.specs.Arguments.{Arguments, form_beside, form_with, has_others, level_of, level_or_default, make_with, run_with, seed_of}
 use Rattle.command_line.specs.Words.{form_read}
 
 level_small : (text : List ℕ) (k : ℕ) → level_of text ≡ Some k → k ≤ 8
@@ -24,7 +24,7 @@ make_level true seed = tt
 make_level false None = tt
 make_level false (Some n) = tt
 
-with_level : (make : Option (List ℕ)) (g : Given) → HasLevel (form_with make g)
+with_level : (make : Option (List ℕ)) (g : Arguments) → HasLevel (form_with make g)
 with_level None g = run_level g.script g.graph (level_or_default g.k) g.without_one g.without_fb g.with_bk (default_small g.k)
 with_level (Some text) g = make_level (has_others g) (seed_of text)
 
@@ -32,10 +32,10 @@ check_level : (b : Bool) (file : List ℕ) → HasLevel (if b then neither else 
 check_level true file = tt
 check_level false file = tt
 
-beside_level : (check : Option (List ℕ)) (g : Given) → HasLevel (form_beside check g)
+beside_level : (check : Option (List ℕ)) (g : Arguments) → HasLevel (form_beside check g)
 beside_level None g = with_level g.make g
 beside_level (Some file) g = check_level (is_some g.make || has_others g) file
 
-pub read_level : (o : Option Given) → HasLevel (form_read o)
+pub read_level : (o : Option Arguments) → HasLevel (form_read o)
 read_level None = tt
 read_level (Some g) = beside_level g.check g

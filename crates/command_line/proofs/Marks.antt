@@ -6,9 +6,9 @@ use Rattle.clap.specs.Kinds.{Kinds, or_else}
 use Rattle.clap.specs.Faults.{check_fault, defaults_fault, entered_fault, settle_fault, step_fault, turn_fault, walk_fault}
 use Rattle.clap.specs.Simple.{Shape, built, entered}
 use Rattle.clap.specs.Walk.{Held, Rule, Step, Walk, after_step, finished, nothing_held, settled, walk, walk_from, walked, walked_from}
-use Rattle.command_line.specs.Givens.{Given}
+use Rattle.command_line.specs.Arguments.{Arguments}
 use Rattle.command_line.specs.Usage.{IsPlainText}
-use Rattle.command_line.specs.Words.{command, given_in, is_no_fault, read}
+use Rattle.command_line.specs.Words.{command, arguments_in, is_no_fault, read}
 use Rattle.command_line.proofs.NoFlag.{NoFlag, met_as_value, met_without_fault, no_flag, value_met}
 
 -- ---- one word
@@ -88,7 +88,7 @@ abbrev shape : Shape
 shape = (built command).top
 
 -- what is read, from where a walk ends and the fault that it met
-abbrev read_after : Walk → Kinds → Option Given
+abbrev read_after : Walk → Kinds → Option Arguments
 read_after end fault =
     let entered_sub = entered (built command) end.stopped in
     let rows = finished shape.rules end.held in
@@ -96,9 +96,9 @@ read_after end fault =
     (or_else (settle_fault shape.rules shape.args_override_self end.held)
     (or_else (defaults_fault (settled shape.rules end.held).rows shape.rules)
     (check_fault shape rows (is_some entered_sub)))) in
-    if is_no_fault (or_else fault later) then Some (given_in rows) else None
+    if is_no_fault (or_else fault later) then Some (arguments_in rows) else None
 
-abbrev pub read_by_marks : List Marked → Option Given
+abbrev pub read_by_marks : List Marked → Option Arguments
 read_by_marks ms = read_after (walk_marked shape.rules (walk_from nothing_held) ms) (marked_fault shape (walk_from nothing_held) ms)
 
 read_is : (words : List (List ℕ)) → read words ≡ read_after (walk shape.rules [] nothing_held words) (walk_fault shape [] (walk_from nothing_held) words)

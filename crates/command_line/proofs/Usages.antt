@@ -2,10 +2,10 @@
 use Rattle.std.proofs.Common.{◌≡◌, ℕ, Bool, List, [], ◌∷◌, ◌++◌, Option, Some, None, true, false, codes, ap}
 use Rattle.std.specs.Prelude.{IfSome}
 use Rattle.clap.proofs.OnLiterals.{clap_on_literals}
-use Rattle.command_line.specs.Usage.{HasPlain, HasPlainTexts, IsPlainText, Order, ScriptUsage, Usage, of_script, of_seed, of_check, flagless, given_by, given_seed, given_check, given_with, words_in, words_of}
+use Rattle.command_line.specs.Usage.{HasPlain, HasPlainTexts, IsPlainText, Order, ScriptUsage, Usage, of_script, of_seed, of_check, flagless, arguments_by, arguments_of_seed, arguments_of_check, arguments_with, words_in, words_of}
 use Rattle.command_line.specs.Usage.{script_level_graph, graph_script_level, graph_level_script, level_script_graph, level_graph_script}
 use Rattle.command_line.specs.Words.{form_of, form_read, read}
-use Rattle.command_line.specs.Givens.{form_given}
+use Rattle.command_line.specs.Arguments.{arguments_form}
 use Rattle.command_line.proofs.Marks.{Marked, read_marked}
 
 abbrev option_marks : List ℕ → Option (List ℕ) → List Marked
@@ -48,7 +48,7 @@ abbrev used : List ℕ → Option (List ℕ) → Option (List ℕ) → Bool → 
 used script graph k one fb bk = record { script = script; graph = graph; k = k; without_one = one; without_fb = fb; with_bk = bk }
 
 plain_by_parts : (s : List ℕ) (g k : Option (List ℕ)) (one fb bk : Bool) → IsPlainText s → IfSome g IsPlainText → IfSome k IsPlainText
-    → read (words_of (of_script (used s g k one fb bk))) ≡ Some (given_with (used s g k one fb bk))
+    → read (words_of (of_script (used s g k one fb bk))) ≡ Some (arguments_with (used s g k one fb bk))
 unfolding clap_on_literals
 plain_by_parts s None None false false false p q r = read_marked (marks_of (used s None None false false false)) (p, tt)
 plain_by_parts s None None false false true p q r = read_marked (marks_of (used s None None false false true)) (p, tt)
@@ -83,22 +83,22 @@ plain_by_parts s (Some g) (Some k) true false true p q r = read_marked (marks_of
 plain_by_parts s (Some g) (Some k) true true false p q r = read_marked (marks_of (used s (Some g) (Some k) true true false)) (p, (q, (r, tt)))
 plain_by_parts s (Some g) (Some k) true true true p q r = read_marked (marks_of (used s (Some g) (Some k) true true true)) (p, (q, (r, tt)))
 
-seed_read : (seed : List ℕ) → IsPlainText seed → read (words_of (of_seed seed)) ≡ Some (given_seed seed)
+seed_read : (seed : List ℕ) → IsPlainText seed → read (words_of (of_seed seed)) ≡ Some (arguments_of_seed seed)
 unfolding clap_on_literals
 seed_read seed plain = read_marked ((false, codes "--make") ∷ (true, seed) ∷ []) (plain, tt)
 
-check_read : (file : List ℕ) → IsPlainText file → read (words_of (of_check file)) ≡ Some (given_check file)
+check_read : (file : List ℕ) → IsPlainText file → read (words_of (of_check file)) ≡ Some (arguments_of_check file)
 unfolding clap_on_literals
 check_read file plain = read_marked ((false, codes "--check") ∷ (true, file) ∷ []) (plain, tt)
 
 -- plain words are taken, with just these texts
-pub plain_read : (u : Usage) → HasPlainTexts u → read (words_of u) ≡ Some (given_by u)
+pub plain_read : (u : Usage) → HasPlainTexts u → read (words_of u) ≡ Some (arguments_by u)
 plain_read (of_script u) plain = plain_by_parts u.script u.graph u.k u.without_one u.without_fb u.with_bk plain.0 plain.1 plain.2
 plain_read (of_seed seed) plain = seed_read seed plain
 plain_read (of_check file) plain = check_read file plain
 
 reordered_by_parts : (o : Order) (s : List ℕ) (g k : Option (List ℕ)) (one fb bk : Bool) → IsPlainText s → IfSome g IsPlainText → IfSome k IsPlainText
-    → read (words_in o (used s g k one fb bk)) ≡ Some (given_with (used s g k false false false))
+    → read (words_in o (used s g k one fb bk)) ≡ Some (arguments_with (used s g k false false false))
 unfolding clap_on_literals
 reordered_by_parts script_level_graph s None None one fb bk p q r = read_marked (marks_in script_level_graph (used s None None false false false)) (p, tt)
 reordered_by_parts script_level_graph s None (Some k) one fb bk p q r = read_marked (marks_in script_level_graph (used s None (Some k) false false false)) (p, (r, tt))
@@ -121,9 +121,9 @@ reordered_by_parts level_graph_script s None (Some k) one fb bk p q r = read_mar
 reordered_by_parts level_graph_script s (Some g) None one fb bk p q r = read_marked (marks_in level_graph_script (used s (Some g) None false false false)) (q, (p, tt))
 reordered_by_parts level_graph_script s (Some g) (Some k) one fb bk p q r = read_marked (marks_in level_graph_script (used s (Some g) (Some k) false false false)) (r, (q, (p, tt)))
 
-pub plain_form : (u : Usage) → HasPlainTexts u → form_of (words_of u) ≡ form_given (given_by u)
+pub plain_form : (u : Usage) → HasPlainTexts u → form_of (words_of u) ≡ arguments_form (arguments_by u)
 plain_form u plain = ap form_read (plain_read u plain)
 
 -- so are words without flags in another order
-pub reordered_form : (o : Order) (u : ScriptUsage) → HasPlain u → form_of (words_in o u) ≡ form_given (given_with (flagless u))
+pub reordered_form : (o : Order) (u : ScriptUsage) → HasPlain u → form_of (words_in o u) ≡ arguments_form (arguments_with (flagless u))
 reordered_form o u plain = ap form_read (reordered_by_parts o u.script u.graph u.k u.without_one u.without_fb u.with_bk plain.0 plain.1 plain.2)

@@ -3,12 +3,12 @@ use Rattle.std.specs.Prelude.{◌≡◌, ℕ, List, Option, Some, None, Result, 
 use Rattle.clap.specs.Words.{found_of, matches_of, rows_of}
 use Rattle.clap.specs.declared.parser.matches.ArgMatches.{ArgMatches}
 use Rattle.command_line.specs.Forms.{Form, Settings, runs, makes, checks, neither}
-use Rattle.command_line.specs.Givens.{Given, form_given}
+use Rattle.command_line.specs.Arguments.{Arguments, arguments_form}
 use Rattle.command_line.specs.Words.{command, is_accepted}
 use Rattle.command_line.specs.declared.form.Form.{Form as FormSeen}
 use Rattle.command_line.specs.declared.form.Form.TheVariants.{Run, Make, Check, Neither}
 use Rattle.command_line.specs.declared.form.Settings.{Settings as SettingsSeen}
-use Rattle.command_line.specs.declared.given.Given.{Given as GivenSeen}
+use Rattle.command_line.specs.declared.arguments.Arguments.{Arguments as ArgumentsSeen}
 
 abbrev pub settings_value : SettingsSeen → Settings
 settings_value s = record { script = s.script.now; graph = option_map (λ t. t.now) s.graph; k = s.k; without_one = s.without_one; without_fb = s.without_fb; with_bk = s.with_bk }
@@ -19,8 +19,8 @@ form_value (Make seed) = makes seed
 form_value (Check file) = checks file.now
 form_value Neither = neither
 
-abbrev pub given_value : GivenSeen → Given
-given_value g = record {
+abbrev pub arguments_value : ArgumentsSeen → Arguments
+arguments_value g = record {
   script = option_map (λ t. t.now) g.script;
   graph = option_map (λ t. t.now) g.graph;
   k = option_map (λ t. t.now) g.k;
@@ -32,8 +32,8 @@ given_value g = record {
 }
 
 -- the form that is read is the one that these texts and flags give
-abbrev pub IsReadAs : {E : Type 0} → Result FormSeen E → Given → Type 0
-IsReadAs result given = IfOk result (λ f. form_value f ≡ form_given given)
+abbrev pub IsReadAs : {E : Type 0} → Result FormSeen E → Arguments → Type 0
+IsReadAs result arguments = IfOk result (λ f. form_value f ≡ arguments_form arguments)
 
 -- clap's matches of the words; none where it refuses them, and only there
 abbrev pub Matches : List (List ℕ) → Option ArgMatches → Type 0

@@ -1,5 +1,5 @@
 pub mod Forms
-pub mod Givens
+pub mod Arguments
 pub mod Words
 pub mod Usage
 pub mod FormValues

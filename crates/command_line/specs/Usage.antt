@@ -1,6 +1,6 @@
 -- The words of the usage line, and the same in another order.
 use Rattle.std.specs.Prelude.{ℕ, ◌≢◌, Bool, true, false, List, [], ◌∷◌, ◌++◌, Option, Some, None, IfSome, codes}
-use Rattle.command_line.specs.Givens.{Given}
+use Rattle.command_line.specs.Arguments.{Arguments}
 
 -- SCRIPT [--graph FILE] [--k N] [--without-one] [--without-fb] [--with-bk]
 pub record ScriptUsage : Type 0 where
@@ -67,8 +67,8 @@ words_in level_script_graph u = level_words u ++ (script_words u ++ graph_words 
 words_in level_graph_script u = level_words u ++ (graph_words u ++ script_words u)
 
 -- just these texts and flags
-abbrev pub given_with : ScriptUsage → Given
-given_with u = record {
+abbrev pub arguments_with : ScriptUsage → Arguments
+arguments_with u = record {
   script = Some u.script;
   graph = u.graph;
   k = u.k;
@@ -80,8 +80,8 @@ given_with u = record {
 }
 
 -- nothing
-abbrev pub nothing_given : Given
-nothing_given = record {
+abbrev pub no_arguments : Arguments
+no_arguments = record {
   script = None;
   graph = None;
   k = None;
@@ -93,25 +93,25 @@ nothing_given = record {
 }
 
 -- just this seed
-abbrev pub given_seed : List ℕ → Given
-given_seed seed = record nothing_given { make = Some seed }
+abbrev pub arguments_of_seed : List ℕ → Arguments
+arguments_of_seed seed = record no_arguments { make = Some seed }
 
 -- just this file to check
-abbrev pub given_check : List ℕ → Given
-given_check file = record nothing_given { check = Some file }
+abbrev pub arguments_of_check : List ℕ → Arguments
+arguments_of_check file = record no_arguments { check = Some file }
 
-abbrev pub given_by : Usage → Given
-given_by (of_script u) = given_with u
-given_by (of_seed seed) = given_seed seed
-given_by (of_check file) = given_check file
+abbrev pub arguments_by : Usage → Arguments
+arguments_by (of_script u) = arguments_with u
+arguments_by (of_seed seed) = arguments_of_seed seed
+arguments_by (of_check file) = arguments_of_check file
 
 -- the texts without the flags
 abbrev pub flagless : ScriptUsage → ScriptUsage
 flagless u = record u { without_one = false; without_fb = false; with_bk = false }
 
 -- just these texts, and no flag
-abbrev pub given_texts : ScriptUsage → Given
-given_texts u = given_with (flagless u)
+abbrev pub only_texts : ScriptUsage → Arguments
+only_texts u = arguments_with (flagless u)
 
 -- not empty, and no hyphen (45) first
 abbrev pub IsPlainText : List ℕ → Type 0

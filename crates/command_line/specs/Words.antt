@@ -6,7 +6,7 @@ use Rattle.clap.specs.Simple.{on_top}
 use Rattle.clap.specs.declared.builder.action.ArgAction.TheVariants.{SetTrue}
 use Rattle.clap.specs.Words.{App, Row, Rule, fault_of, first_of, matches_of, new_app, new_rule, with_rule}
 use Rattle.command_line.specs.Forms.{Form, neither}
-use Rattle.command_line.specs.Givens.{Given, form_given}
+use Rattle.command_line.specs.Arguments.{Arguments, arguments_form}
 
 -- an option with one text: its word is the name behind two hyphens
 abbrev pub option_rule : List ℕ → Rule
@@ -46,8 +46,8 @@ is_set None = false
 is_set (Some text) = bytes_eq text (codes "true")
 
 -- the texts and the flags, by what clap found for each argument
-abbrev pub given_in : List Row → Given
-given_in rows = record {
+abbrev pub arguments_in : List Row → Arguments
+arguments_in rows = record {
   script = first_of (codes "script") rows;
   graph = first_of (codes "graph") rows;
   k = first_of (codes "k") rows;
@@ -59,12 +59,12 @@ given_in rows = record {
 }
 
 -- what the words give, if clap takes them
-abbrev pub read : List (List ℕ) → Option Given
-read words = if is_accepted words then Some (given_in (matches_of command words)) else None
+abbrev pub read : List (List ℕ) → Option Arguments
+read words = if is_accepted words then Some (arguments_in (matches_of command words)) else None
 
-abbrev pub form_read : Option Given → Form
+abbrev pub form_read : Option Arguments → Form
 form_read None = neither
-form_read (Some g) = form_given g
+form_read (Some g) = arguments_form g
 
 abbrev pub form_of : List (List ℕ) → Form
 form_of words = form_read (read words)

@@ -3,13 +3,13 @@ ghost use Rattle.std.specs.Prelude.{◌≡◌, IfOk, None, Some, false, map, opt
 ghost use Rattle.std.specs.Char.{is_ascii_digit};
 ghost use Rattle.std.specs.List.{list_all};
 ghost use Rattle.command_line.specs.Forms.{neither, HasLevel};
-ghost use Rattle.command_line.specs.Givens.{form_beside, form_given, form_with, level_or_default as level_given, level_of as level_in};
-ghost use Rattle.command_line.specs.Givens.{has_others as others_given, is_numeral as numeral_given, seed_of as seed_given};
+ghost use Rattle.command_line.specs.Arguments.{form_beside, arguments_form, form_with, level_or_default as level_of_text, level_of as level_in};
+ghost use Rattle.command_line.specs.Arguments.{has_others as others_in, is_numeral as numeral_in, seed_of as seed_in};
 ghost use Rattle.command_line.specs.Words.{form_of as form_said, form_read, is_accepted};
-ghost use Rattle.command_line.specs.FormValues.{form_value, given_value, IsReadAs};
-ghost use Rattle.command_line.specs.Usage.{HasPlain, HasPlainTexts, Order, ScriptUsage, Usage, given_by, given_texts, words_in, words_of};
+ghost use Rattle.command_line.specs.FormValues.{form_value, arguments_value, IsReadAs};
+ghost use Rattle.command_line.specs.Usage.{HasPlain, HasPlainTexts, Order, ScriptUsage, Usage, arguments_by, only_texts, words_in, words_of};
 
-use crate::given::{Given, read_given};
+use crate::arguments::{Arguments, read_arguments};
 use px_base::Memory;
 use std::alloc::Global;
 
@@ -61,7 +61,7 @@ fn level_of(text: &str) -> Option<u32>
 
 // The level of the option's text, and 2 where the option isn't there.
 fn level_or_default(text: Option<&str>) -> Option<u32>
-    ensures { result ≡ level_given (option_map (λ t. t.now) text.entry) }
+    ensures { result ≡ level_of_text (option_map (λ t. t.now) text.entry) }
 {
     match text {
         Some(text) => level_of(text),
@@ -69,20 +69,20 @@ fn level_or_default(text: Option<&str>) -> Option<u32>
     }
 }
 
-fn run_with<'a>(given: &Given<'a>) -> Form<'a>
-    ensures { form_value result ≡ form_with None (given_value given.now) }
+fn run_with<'a>(arguments: &Arguments<'a>) -> Form<'a>
+    ensures { form_value result ≡ form_with None (arguments_value arguments.now) }
 {
-    let Some(script) = given.script else {
+    let Some(script) = arguments.script else {
         return Form::Neither;
     };
-    match level_or_default(given.k) {
+    match level_or_default(arguments.k) {
         Some(k) => Form::Run(Settings {
             script,
-            graph: given.graph,
+            graph: arguments.graph,
             k,
-            without_one: given.without_one,
-            without_fb: given.without_fb,
-            with_bk: given.with_bk,
+            without_one: arguments.without_one,
+            without_fb: arguments.without_fb,
+            with_bk: arguments.with_bk,
         }),
         None => Form::Neither,
     }
@@ -96,14 +96,14 @@ fn are_digits(bytes: &[u8]) -> bool
 
 // Whether the text is a numeral of at most 20 digits, as each number of 64 bits has one.
 fn is_numeral(text: &str) -> bool
-    ensures { result ≡ numeral_given text.now }
+    ensures { result ≡ numeral_in text.now }
 {
     1 <= text.len() && text.len() <= 20 && are_digits(text.as_bytes())
 }
 
 // The seed that the text names: a number of 64 bits in decimal.
 fn seed_of(text: &str) -> Option<u64>
-    ensures { result ≡ seed_given text.now }
+    ensures { result ≡ seed_in text.now }
 {
     if !is_numeral(text) {
         return None;
@@ -115,21 +115,21 @@ fn seed_of(text: &str) -> Option<u64>
 }
 
 // Whether anything other than a seed and a file to check is given.
-fn has_others(given: &Given) -> bool
-    ensures { result ≡ others_given (given_value given.now) }
+fn has_others(arguments: &Arguments) -> bool
+    ensures { result ≡ others_in (arguments_value arguments.now) }
 {
-    given.script.is_some()
-        || given.graph.is_some()
-        || given.k.is_some()
-        || given.without_one
-        || given.without_fb
-        || given.with_bk
+    arguments.script.is_some()
+        || arguments.graph.is_some()
+        || arguments.k.is_some()
+        || arguments.without_one
+        || arguments.without_fb
+        || arguments.with_bk
 }
 
-fn make_with<'a>(given: &Given<'a>, text: &str) -> Form<'a>
-    ensures { form_value result ≡ form_with (Some text.now) (given_value given.now) }
+fn make_with<'a>(arguments: &Arguments<'a>, text: &str) -> Form<'a>
+    ensures { form_value result ≡ form_with (Some text.now) (arguments_value arguments.now) }
 {
-    if has_others(given) {
+    if has_others(arguments) {
         return Form::Neither;
     }
     match seed_of(text) {
@@ -138,38 +138,38 @@ fn make_with<'a>(given: &Given<'a>, text: &str) -> Form<'a>
     }
 }
 
-fn make_or_run<'a>(given: &Given<'a>) -> Form<'a>
-    ensures { form_value result ≡ form_beside None (given_value given.now) }
+fn make_or_run<'a>(arguments: &Arguments<'a>) -> Form<'a>
+    ensures { form_value result ≡ form_beside None (arguments_value arguments.now) }
 {
-    match given.make {
-        Some(text) => make_with(given, text),
-        None => run_with(given),
+    match arguments.make {
+        Some(text) => make_with(arguments, text),
+        None => run_with(arguments),
     }
 }
 
-fn check_with<'a>(given: &Given<'a>, file: &'a str) -> Form<'a>
-    ensures { form_value result ≡ form_beside (Some file.now) (given_value given.now) }
+fn check_with<'a>(arguments: &Arguments<'a>, file: &'a str) -> Form<'a>
+    ensures { form_value result ≡ form_beside (Some file.now) (arguments_value arguments.now) }
 {
-    if given.make.is_some() || has_others(given) {
+    if arguments.make.is_some() || has_others(arguments) {
         return Form::Neither;
     }
     Form::Check(file)
 }
 
-fn form_of<'a>(given: &Given<'a>) -> Form<'a>
-    ensures { form_value result ≡ form_given (given_value given.now) }
+fn form_of<'a>(arguments: &Arguments<'a>) -> Form<'a>
+    ensures { form_value result ≡ arguments_form (arguments_value arguments.now) }
 {
-    match given.check {
-        Some(file) => check_with(given, file),
-        None => make_or_run(given),
+    match arguments.check {
+        Some(file) => check_with(arguments, file),
+        None => make_or_run(arguments),
     }
 }
 
-fn judge<'a>(given: Option<Given<'a>>) -> Form<'a>
-    ensures { form_value result ≡ form_read (option_map given_value given.entry) }
+fn judge<'a>(arguments: Option<Arguments<'a>>) -> Form<'a>
+    ensures { form_value result ≡ form_read (option_map arguments_value arguments.entry) }
 {
-    match given {
-        Some(given) => form_of(&given),
+    match arguments {
+        Some(arguments) => form_of(&arguments),
         None => Form::Neither,
     }
 }
@@ -182,12 +182,12 @@ fn judge<'a>(given: Option<Given<'a>>) -> Form<'a>
 pub fn read_words<'a>(alloc: Global, words: &'a [String]) -> Result<Form<'a>, Memory>
     ensures exact { IfOk result (λ f. form_value f ≡ form_said (map string_bytes words.entry.now)) }
     // The words of the usage line, with texts that aren't empty and don't begin with a hyphen, give those texts.
-    ensures plain { (u : Usage) → map string_bytes words.entry.now ≡ words_of u → HasPlainTexts u → IsReadAs result (given_by u) }
+    ensures plain { (u : Usage) → map string_bytes words.entry.now ≡ words_of u → HasPlainTexts u → IsReadAs result (arguments_by u) }
     // So do those of a script without flags in another order.
-    ensures reordered { (u : ScriptUsage) (o : Order) → map string_bytes words.entry.now ≡ words_in o u → HasPlain u → IsReadAs result (given_texts u) }
+    ensures reordered { (u : ScriptUsage) (o : Order) → map string_bytes words.entry.now ≡ words_in o u → HasPlain u → IsReadAs result (only_texts u) }
     ensures refused { is_accepted (map string_bytes words.entry.now) ≡ false → IfOk result (λ f. form_value f ≡ neither) }
     ensures level { IfOk result (λ f. HasLevel (form_value f)) }
 {
-    let given = read_given(alloc, words)?;
-    Ok(judge(given))
+    let arguments = read_arguments(alloc, words)?;
+    Ok(judge(arguments))
 }

@@ -2,7 +2,7 @@
 #![tactic(auto)]
 
 mod form;
-mod given;
+mod arguments;
 mod rules;
 #[cfg(test)]
 mod tests;

@@ -6,7 +6,7 @@ use Rattle.bisim_spec.specs.declared.kind.Kind.{Kind}
 use Rattle.index_api.specs.declared.kinds.Via.{Via}
 use Rattle.index_api.specs.declared.kinds.Via.TheVariants.{Data, A, One, Fb, B}
 use Rattle.index_api.specs.IndexOrder.{place_of}
-use Rattle.picture_run.specs.Settings.{AreWithin, Given, family_named, index_named, is_numeral, level_named, number_or, number_within, settings_beside, settings_with, via_named, via_or_default}
+use Rattle.picture_run.specs.Settings.{AreWithin, Arguments, family_named, index_named, is_numeral, level_named, number_or, number_within, settings_beside, settings_with, via_named, via_or_default}
 use Rattle.picture_run.specs.SettingsValues.{settings_value}
 use Rattle.picture_run.specs.Words.{settings_read}
 use Rattle.picture_run.specs.declared.settings.Settings.{Settings as SettingsSeen}
@@ -108,13 +108,13 @@ with_within file (Some via) (Some n) None low b m = tt
 with_within file (Some via) (Some n) (Some k) low b m =
     record { level = low via refl; some_blocks = (b n refl).0; most_blocks = (b n refl).1; some_members = (m k refl).0; most_members = (m k refl).1 }
 
-beside_within : (file : Option (List ℕ)) (g : Given) → IfSome (settings_beside file g) AreWithin
+beside_within : (file : Option (List ℕ)) (g : Arguments) → IfSome (settings_beside file g) AreWithin
 beside_within None g = tt
 beside_within (Some file) g =
     with_within file (via_or_default g.graph_of) (number_or 200 20 g.blocks) (number_or 50 3 g.members) (default_low g.graph_of)
     (or_between 200 20 g.blocks (omega arith) (omega arith)) (or_between 50 3 g.members (omega arith) (omega arith))
 
-read_within : (o : Option Given) → IfSome (settings_read o) AreWithin
+read_within : (o : Option Arguments) → IfSome (settings_read o) AreWithin
 read_within None = tt
 read_within (Some g) = beside_within g.graph g
 
@@ -123,5 +123,5 @@ value_within None h = tt
 value_within (Some s) h = h
 
 -- what is read is within bounds
-pub seen_within : (o : Option SettingsSeen) (g : Option Given) → option_map settings_value o ≡ settings_read g → IfSome o (λ s. AreWithin (settings_value s))
+pub seen_within : (o : Option SettingsSeen) (g : Option Arguments) → option_map settings_value o ≡ settings_read g → IfSome o (λ s. AreWithin (settings_value s))
 seen_within o g e = value_within o (subst (λ p. IfSome p AreWithin) (sym e) (read_within g))

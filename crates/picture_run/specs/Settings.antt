@@ -28,7 +28,7 @@ pub record AreWithin (s : Settings) : Type 0 where
   pub most_members : s.members ≤ 50
 
 -- the text of each argument, if it is there
-pub record Given : Type 0 where
+pub record Arguments : Type 0 where
   pub graph : Option (List ℕ)
   pub graph_of : Option (List ℕ)
   pub blocks : Option (List ℕ)
@@ -88,9 +88,9 @@ settings_with file (Some via) (Some blocks) None = None
 settings_with file (Some via) (Some blocks) (Some members) = Some (record { file = file; via = via; blocks = blocks; members = members })
 
 -- at most 200 blocks, 20 if nothing is said, and at most 50 nodes of each, 3 if nothing is said
-abbrev pub settings_beside : Option (List ℕ) → Given → Option Settings
+abbrev pub settings_beside : Option (List ℕ) → Arguments → Option Settings
 settings_beside None g = None
 settings_beside (Some file) g = settings_with file (via_or_default g.graph_of) (number_or 200 20 g.blocks) (number_or 50 3 g.members)
 
-abbrev pub settings_given : Given → Option Settings
-settings_given g = settings_beside g.graph g
+abbrev pub arguments_settings : Arguments → Option Settings
+arguments_settings g = settings_beside g.graph g

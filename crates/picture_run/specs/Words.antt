@@ -4,7 +4,7 @@ use Rattle.std.specs.Prelude.{ℕ, Bool, true, false, List, [], ◌∷◌, Optio
 use Rattle.clap.specs.Kinds.{Kinds}
 use Rattle.clap.specs.Simple.{on_top}
 use Rattle.clap.specs.Words.{App, Row, Rule, fault_of, first_of, matches_of, new_app, new_rule, with_rule}
-use Rattle.picture_run.specs.Settings.{Given, Settings, settings_given}
+use Rattle.picture_run.specs.Settings.{Arguments, Settings, arguments_settings}
 
 -- an option with one text: its word is the name behind two hyphens
 abbrev pub option_rule : List ℕ → Rule
@@ -31,8 +31,8 @@ abbrev pub is_accepted : List (List ℕ) → Bool
 is_accepted words = is_no_fault (fault_of command words)
 
 -- the texts, by what clap found for each argument
-abbrev pub given_in : List Row → Given
-given_in rows = record {
+abbrev pub arguments_in : List Row → Arguments
+arguments_in rows = record {
   graph = first_of (codes "graph") rows;
   graph_of = first_of (codes "graph-of") rows;
   blocks = first_of (codes "blocks") rows;
@@ -40,12 +40,12 @@ given_in rows = record {
 }
 
 -- what the words give, if clap takes them
-abbrev pub read : List (List ℕ) → Option Given
-read words = if is_accepted words then Some (given_in (matches_of command words)) else None
+abbrev pub read : List (List ℕ) → Option Arguments
+read words = if is_accepted words then Some (arguments_in (matches_of command words)) else None
 
-abbrev pub settings_read : Option Given → Option Settings
+abbrev pub settings_read : Option Arguments → Option Settings
 settings_read None = None
-settings_read (Some g) = settings_given g
+settings_read (Some g) = arguments_settings g
 
 -- what the words ask for; none where they are malformed
 abbrev pub settings_of : List (List ℕ) → Option Settings

@@ -2,7 +2,7 @@
 #![tactic(auto)]
 
 mod drawing;
-mod given;
+mod arguments;
 mod output;
 mod rules;
 mod settings;

@@ -2,13 +2,13 @@
 ghost use Rattle.std.specs.Prelude.{◌≡◌, IfOk, IfSome, map, option_map, string_bytes};
 ghost use Rattle.std.specs.Char.{is_ascii_digit};
 ghost use Rattle.std.specs.List.{list_all};
-ghost use Rattle.picture_run.specs.Settings.{AreWithin, family_named, index_named, level_named, number_named, number_within, settings_given};
+ghost use Rattle.picture_run.specs.Settings.{AreWithin, family_named, index_named, level_named, number_named, number_within, arguments_settings};
 ghost use Rattle.picture_run.specs.Settings.{is_numeral as numeral_named, number_or as number_or_own, settings_with as settings_in};
-ghost use Rattle.picture_run.specs.Settings.{via_named, via_or_default as via_given};
-ghost use Rattle.picture_run.specs.SettingsValues.{given_value, settings_value};
+ghost use Rattle.picture_run.specs.Settings.{via_named, via_or_default as via_of_text};
+ghost use Rattle.picture_run.specs.SettingsValues.{arguments_value, settings_value};
 ghost use Rattle.picture_run.specs.Words.{settings_of as settings_said, settings_read};
 
-use crate::given::{Given, read_given};
+use crate::arguments::{Arguments, read_arguments};
 use index_api::Via;
 use px_base::Memory;
 use std::alloc::Global;
@@ -79,7 +79,7 @@ fn via_of(text: &str) -> Option<Via>
 }
 
 fn via_or_default(text: Option<&str>) -> Option<Via>
-    ensures { result ≡ via_given (option_map (λ t. t.now) text.entry) }
+    ensures { result ≡ via_of_text (option_map (λ t. t.now) text.entry) }
 {
     match text {
         Some(text) => via_of(text),
@@ -156,25 +156,25 @@ fn settings_with<'a>(
     }
 }
 
-fn settings_of<'a>(given: &Given<'a>) -> Option<Settings<'a>>
-    ensures { option_map settings_value result ≡ settings_given (given_value given.now) }
+fn settings_of<'a>(arguments: &Arguments<'a>) -> Option<Settings<'a>>
+    ensures { option_map settings_value result ≡ arguments_settings (arguments_value arguments.now) }
 {
-    match given.graph {
+    match arguments.graph {
         Some(file) => settings_with(
             file,
-            via_or_default(given.graph_of),
-            number_or(200, 20, given.blocks),
-            number_or(50, 3, given.members),
+            via_or_default(arguments.graph_of),
+            number_or(200, 20, arguments.blocks),
+            number_or(50, 3, arguments.members),
         ),
         None => None,
     }
 }
 
-fn judge<'a>(given: Option<Given<'a>>) -> Option<Settings<'a>>
-    ensures { option_map settings_value result ≡ settings_read (option_map given_value given.entry) }
+fn judge<'a>(arguments: Option<Arguments<'a>>) -> Option<Settings<'a>>
+    ensures { option_map settings_value result ≡ settings_read (option_map arguments_value arguments.entry) }
 {
-    match given {
-        Some(given) => settings_of(&given),
+    match arguments {
+        Some(arguments) => settings_of(&arguments),
         None => None,
     }
 }
@@ -188,6 +188,6 @@ pub(crate) fn read_words<'a>(
     ensures exact { IfOk result (λ s. option_map settings_value s ≡ settings_said (map string_bytes words.entry.now)) }
     ensures within { IfOk result (λ s. IfSome s (λ t. AreWithin (settings_value t))) }
 {
-    let given = read_given(alloc, words)?;
-    Ok(judge(given))
+    let arguments = read_arguments(alloc, words)?;
+    Ok(judge(arguments))
 }

@@ -1,6 +1,6 @@
 use Rattle.std.proofs.Common.{◌≡◌, ◌∙◌, ap, sym, subst, map, option_map, string_bytes, rules}
 use Rattle.command_line.specs.Forms.{HasLevel}
-use Rattle.command_line.specs.FormValues.{form_value, given_value}
+use Rattle.command_line.specs.FormValues.{form_value, arguments_value}
 use Rattle.command_line.specs.Words.{form_of}
 use Rattle.command_line.proofs.Levels.{read_level}
 use Rattle.command_line.proofs.Usages.{plain_form, reordered_form}
@@ -17,4 +17,4 @@ returns-clause-reordered c u o is plain =
     exact ∙ ap form_of is ∙ reordered_form o u plain
 
 pub returns-clause-level : goal.returns-clause-level
-returns-clause-level c = subst HasLevel (sym c.judge.ensures) (read_level (option_map given_value c.in_ok-given.given))
+returns-clause-level c = subst HasLevel (sym c.judge.ensures) (read_level (option_map arguments_value c.in_ok-arguments.arguments))

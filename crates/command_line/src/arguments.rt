@@ -1,8 +1,8 @@
 // What stands on the command line, before it is judged.
 ghost use Rattle.std.specs.Prelude.{◌≡◌, IfOk, map, option_map, string_bytes};
 ghost use Rattle.clap.specs.Words.{first_of, found_of, rows_of};
-ghost use Rattle.command_line.specs.Words.{given_in, is_set, read};
-ghost use Rattle.command_line.specs.FormValues.{Matches, given_value};
+ghost use Rattle.command_line.specs.Words.{arguments_in, is_set, read};
+ghost use Rattle.command_line.specs.FormValues.{Matches, arguments_value};
 
 use crate::rules::make_command;
 use clap::ArgMatches;
@@ -12,7 +12,7 @@ use std::alloc::Global;
 
 /// The text of each argument that is there, and which flags are.
 #[derive(Drop)]
-pub(crate) struct Given<'a> {
+pub(crate) struct Arguments<'a> {
     pub(crate) script: Option<&'a str>,
     pub(crate) graph: Option<&'a str>,
     pub(crate) k: Option<&'a str>,
@@ -53,10 +53,10 @@ fn has_flag<'a>(matches: &ArgMatches<'a>, id: &str) -> bool
     }
 }
 
-fn gather<'a>(matches: &ArgMatches<'a>) -> Given<'a>
-    ensures { given_value result ≡ given_in (rows_of (found_of matches.now)) }
+fn gather<'a>(matches: &ArgMatches<'a>) -> Arguments<'a>
+    ensures { arguments_value result ≡ arguments_in (rows_of (found_of matches.now)) }
 {
-    Given {
+    Arguments {
         script: text_of(matches, "script"),
         graph: text_of(matches, "graph"),
         k: text_of(matches, "k"),
@@ -68,12 +68,12 @@ fn gather<'a>(matches: &ArgMatches<'a>) -> Given<'a>
     }
 }
 
-/// What is given by the words; none where clap refuses them.
-pub(crate) fn read_given<'a>(
+/// The arguments that the words say; none where clap refuses them.
+pub(crate) fn read_arguments<'a>(
     alloc: Global,
     words: &'a [String],
-) -> Result<Option<Given<'a>>, Memory>
-    ensures { IfOk result (λ g. option_map given_value g ≡ read (map string_bytes words.entry.now)) }
+) -> Result<Option<Arguments<'a>>, Memory>
+    ensures { IfOk result (λ g. option_map arguments_value g ≡ read (map string_bytes words.entry.now)) }
 {
     match matches(alloc, words)? {
         Some(matches) => Ok(Some(gather(&matches))),

@@ -1,6 +1,6 @@
 use Rattle.std.proofs.Common.{map, string_bytes, ◌∙◌}
 use Rattle.picture_run.proofs.ClapWords.{matched, refused}
-use Rattle.picture_run.proofs.given.matches.Goals as goal
+use Rattle.picture_run.proofs.arguments.matches.Goals as goal
 
 pub returns-in-Ok : goal.returns-in-Ok
 returns-in-Ok c =

@@ -1,6 +1,6 @@
 use Rattle.std.proofs.Common.{map, string_bytes, ◌∙◌}
 use Rattle.command_line.proofs.ClapWords.{matched, refused}
-use Rattle.command_line.proofs.given.matches.Goals as goal
+use Rattle.command_line.proofs.arguments.matches.Goals as goal
 
 pub returns-in-Ok : goal.returns-in-Ok
 returns-in-Ok c =

@@ -6,7 +6,7 @@ use Rattle.std.specs.Str.Parse.{digits_value}
 use Rattle.command_line.specs.Forms.{Form, runs, makes, checks, neither}
 
 -- the text of each argument, if it is there, and which flags are
-pub record Given : Type 0 where
+pub record Arguments : Type 0 where
   pub script : Option (List ℕ)
   pub graph : Option (List ℕ)
   pub k : Option (List ℕ)
@@ -43,7 +43,7 @@ abbrev pub seed_of : List ℕ → Option ℕ
 seed_of text = if is_numeral text && nat_lt (digits_value 10 text) (2 ^ 64) then Some (digits_value 10 text) else None
 
 -- something other than a seed and a file to check is given
-abbrev pub has_others : Given → Bool
+abbrev pub has_others : Arguments → Bool
 has_others g = is_some g.script || is_some g.graph || is_some g.k || g.without_one || g.without_fb || g.with_bk
 
 -- a seed alone
@@ -52,14 +52,14 @@ make_with None = neither
 make_with (Some seed) = makes seed
 
 -- the texts that are made from a seed, or a script
-abbrev pub form_with : Option (List ℕ) → Given → Form
+abbrev pub form_with : Option (List ℕ) → Arguments → Form
 form_with None g = run_with g.script g.graph (level_or_default g.k) g.without_one g.without_fb g.with_bk
 form_with (Some text) g = if has_others g then neither else make_with (seed_of text)
 
 -- a file to check alone, or else what the rest gives
-abbrev pub form_beside : Option (List ℕ) → Given → Form
+abbrev pub form_beside : Option (List ℕ) → Arguments → Form
 form_beside None g = form_with g.make g
 form_beside (Some file) g = if is_some g.make || has_others g then neither else checks file
 
-abbrev pub form_given : Given → Form
-form_given g = form_beside g.check g
+abbrev pub arguments_form : Arguments → Form
+arguments_form g = form_beside g.check g

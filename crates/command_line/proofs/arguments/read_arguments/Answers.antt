@@ -1,6 +1,6 @@
 use Rattle.std.proofs.Common.{map, string_bytes}
-use Rattle.picture_run.proofs.ClapWords.{gathered, not_gathered}
-use Rattle.picture_run.proofs.given.read_given.Goals as goal
+use Rattle.command_line.proofs.ClapWords.{gathered, not_gathered}
+use Rattle.command_line.proofs.arguments.read_arguments.Goals as goal
 
 pub returns-in-Some : goal.returns-in-Some
 returns-in-Some c =

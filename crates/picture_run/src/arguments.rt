@@ -1,8 +1,8 @@
 // What stands on the command line, before it is judged.
 ghost use Rattle.std.specs.Prelude.{◌≡◌, IfOk, map, option_map, string_bytes};
 ghost use Rattle.clap.specs.Words.{first_of, found_of, rows_of};
-ghost use Rattle.picture_run.specs.Words.{given_in, read};
-ghost use Rattle.picture_run.specs.SettingsValues.{Matches, given_value};
+ghost use Rattle.picture_run.specs.Words.{arguments_in, read};
+ghost use Rattle.picture_run.specs.SettingsValues.{Matches, arguments_value};
 
 use crate::rules::make_command;
 use clap::ArgMatches;
@@ -12,7 +12,7 @@ use std::alloc::Global;
 
 /// The text of each argument that is there.
 #[derive(Drop)]
-pub(crate) struct Given<'a> {
+pub(crate) struct Arguments<'a> {
     pub(crate) graph: Option<&'a str>,
     pub(crate) graph_of: Option<&'a str>,
     pub(crate) blocks: Option<&'a str>,
@@ -39,10 +39,10 @@ fn text_of<'a>(matches: &ArgMatches<'a>, id: &str) -> Option<&'a str>
     matches.get_str(id)
 }
 
-fn gather<'a>(matches: &ArgMatches<'a>) -> Given<'a>
-    ensures { given_value result ≡ given_in (rows_of (found_of matches.now)) }
+fn gather<'a>(matches: &ArgMatches<'a>) -> Arguments<'a>
+    ensures { arguments_value result ≡ arguments_in (rows_of (found_of matches.now)) }
 {
-    Given {
+    Arguments {
         graph: text_of(matches, "graph"),
         graph_of: text_of(matches, "graph-of"),
         blocks: text_of(matches, "blocks"),
@@ -50,12 +50,12 @@ fn gather<'a>(matches: &ArgMatches<'a>) -> Given<'a>
     }
 }
 
-/// What is given by the words; none where clap refuses them.
-pub(crate) fn read_given<'a>(
+/// The arguments that the words say; none where clap refuses them.
+pub(crate) fn read_arguments<'a>(
     alloc: Global,
     words: &'a [String],
-) -> Result<Option<Given<'a>>, Memory>
-    ensures { IfOk result (λ g. option_map given_value g ≡ read (map string_bytes words.entry.now)) }
+) -> Result<Option<Arguments<'a>>, Memory>
+    ensures { IfOk result (λ g. option_map arguments_value g ≡ read (map string_bytes words.entry.now)) }
 {
     match matches(alloc, words)? {
         Some(matches) => Ok(Some(gather(&matches))),
