@@ -13,7 +13,7 @@ use Rattle.change_spec.specs.Named.{is_named}
 use Rattle.graph_spec.proofs.EdgeOrder.{edge_cmp_total}
 use Rattle.std.proofs.Math.Bool.{and-false}
 use Rattle.change_spec.proofs.StepGraphs.{edge_dropped}
-use Rattle.change_spec.specs.Shown.{shown_parents, shown_children}
+use Rattle.change_spec.specs.EdgesAfter.{shown_parents, shown_children}
 
 abbrev one : Graph
 one = with_node empty_graph (codes "a")

@@ -8,7 +8,7 @@ use Rattle.graph_spec.specs.Graphs.{Graph, is_live}
 use Rattle.change_spec.specs.Steps.{Step, node, link, unlink, drop, relabel, made, after}
 use Rattle.change_spec.specs.Places.{CanMakeAll}
 use Rattle.change_spec.specs.Named.{names, is_named, takes_away, is_dropped}
-use Rattle.change_spec.specs.Shown.{concerns, concerned, new_parents, new_children}
+use Rattle.change_spec.specs.EdgesAfter.{concerns, concerned, new_parents, new_children}
 use Rattle.change_spec.proofs.StepPlaces.{live_added, live_dropped, live_labelled, live_given, given_set, given_made}
 
 -- ---- what is live

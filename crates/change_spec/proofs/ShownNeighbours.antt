@@ -11,7 +11,7 @@ use Rattle.graph_spec.specs.Graphs.{Graph, has_edge}
 use Rattle.graph_spec.specs.Members.{has, Lists}
 use Rattle.graph_spec.proofs.GraphLaws.{edge_with, edge_without}
 use Rattle.change_spec.specs.Steps.{Step, node, link, unlink, drop, relabel, made, after}
-use Rattle.change_spec.specs.Shown.{edge_by, edge_after, concerns, concerned, added_onto, new_parents, shown_parents, added_from, new_children, shown_children}
+use Rattle.change_spec.specs.EdgesAfter.{edge_by, edge_after, concerns, concerned, added_onto, new_parents, shown_parents, added_from, new_children, shown_children}
 use Rattle.change_spec.proofs.StepGraphs.{edge_dropped}
 
 pub edge_step : (s : Step) (g : Graph) (p n : ℕ) → has_edge (made s g) p n ≡ edge_by s p n (has_edge g p n)

@@ -7,6 +7,6 @@ pub mod Costs
 pub mod NextOne
 pub mod Places
 pub mod Lost
-pub mod Shown
+pub mod EdgesAfter
 pub mod Bounds
 pub mod Counts

@@ -2,7 +2,7 @@
 #![tactic(auto)]
 
 mod answers;
-mod chains;
+mod member_chains;
 mod extents;
 mod gathered;
 mod is_first_member;

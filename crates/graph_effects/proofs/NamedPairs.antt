@@ -12,7 +12,7 @@ use Rattle.graph_spec.specs.Graphs.{Graph, IsGraph, is_live, has_edge}
 use Rattle.change_spec.specs.Steps.{Step, node, link, unlink, drop, relabel, after}
 use Rattle.change_spec.specs.Places.{CanMakeAll}
 use Rattle.change_spec.specs.Named.{names, takes_away, is_named, is_dropped}
-use Rattle.change_spec.specs.Shown.{concerns, concerned}
+use Rattle.change_spec.specs.EdgesAfter.{concerns, concerned}
 use Rattle.change_spec.proofs.ShownNeighbours.{edge_all, unconcerned}
 use Rattle.graph_steps.specs.NamedSteps.{IsNextNamed}
 use Rattle.graph_update.proofs.NamedParts.{parted}

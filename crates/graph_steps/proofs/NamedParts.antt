@@ -11,7 +11,7 @@ use Rattle.graph_spec.specs.Graphs.{Graph, is_live}
 use Rattle.change_spec.specs.Steps.{Step, after}
 use Rattle.change_spec.specs.Places.{CanMakeAll}
 use Rattle.change_spec.specs.Named.{names, takes_away, is_named, is_dropped}
-use Rattle.change_spec.specs.Shown.{concerned, edge_after, edge_by}
+use Rattle.change_spec.specs.EdgesAfter.{concerned, edge_after, edge_by}
 use Rattle.change_spec.proofs.NamedNodes.{is_added, live_after, unnamed_parent, unnamed_child}
 use Rattle.change_spec.proofs.ShownNeighbours.{unconcerned, settled}
 use Rattle.graph_steps.specs.declared.changes.Step.{Step as Asked}

@@ -4,7 +4,7 @@ ghost use Rattle.graph_spec.specs.Graphs.{Graph as Seen, is_live, has_edge, is_s
 ghost use Rattle.change_spec.specs.Steps.{Step as Made, made, after};
 ghost use Rattle.change_spec.specs.Places.{CanMakeAll};
 ghost use Rattle.change_spec.specs.Named.{is_dropped};
-ghost use Rattle.change_spec.specs.Shown.{edge_by, edge_after};
+ghost use Rattle.change_spec.specs.EdgesAfter.{edge_by, edge_after};
 ghost use Rattle.graph_steps.specs.StepLists.{step_of, steps_of};
 ghost use Rattle.graph_steps.specs.NamedSteps.{IsNextNamed};
 

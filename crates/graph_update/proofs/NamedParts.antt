@@ -9,7 +9,7 @@ use Rattle.bisim_spec.specs.declared.sides.Side.{Side}
 use Rattle.bisim_spec.specs.declared.sides.Side.TheVariants.{Parents, Children}
 use Rattle.change_spec.specs.Steps.{Step, node, link, unlink, drop as drop_step, relabel}
 use Rattle.change_spec.specs.Named.{names, takes_away, is_named, is_dropped}
-use Rattle.change_spec.specs.Shown.{concerns, concerned}
+use Rattle.change_spec.specs.EdgesAfter.{concerns, concerned}
 use Rattle.graph_steps.specs.NamedSteps.{IsNextNamed}
 use Rattle.graph_update.specs.ShownNeighbours.{concerns_at, concerned_at, linked_at, unless_later, with_first, new_at}
 use Rattle.graph_update.proofs.ShownLaws.{unnamed_at, unnamed_far}

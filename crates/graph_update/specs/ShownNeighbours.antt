@@ -6,7 +6,7 @@ use Rattle.bisim_spec.specs.declared.sides.Side.TheVariants.{Parents, Children}
 use Rattle.graph_spec.specs.Graphs.{Graph, has_edge}
 use Rattle.change_spec.specs.Steps.{Step, node, link, unlink, drop as drop_step, relabel}
 use Rattle.change_spec.specs.Named.{is_dropped}
-use Rattle.change_spec.specs.Shown.{concerns, concerned, new_parents, new_children, edge_after}
+use Rattle.change_spec.specs.EdgesAfter.{concerns, concerned, new_parents, new_children, edge_after}
 
 -- an edge joins n to m, which is its neighbour on this side
 abbrev pub joins : Side → Graph → ℕ → ℕ → Bool

@@ -1,6 +1,6 @@
 // The neighbours of a node in a graph that is shown.
 ghost use Rattle.std.specs.Prelude.{◌≡◌, ◌<◌, ◌≤◌, ◌||◌, ◌&&◌, ◌∷◌, ◌+◌, nat_eq, [], IfSome, IfNone, Some, None, Option, false, length, drop, if◌then◌else◌};
-ghost use Rattle.change_spec.specs.Shown.{concerns as concerning};
+ghost use Rattle.change_spec.specs.EdgesAfter.{concerns as concerning};
 ghost use Rattle.change_spec.specs.Named.{is_dropped};
 ghost use Rattle.change_spec.specs.Counts.{tally};
 ghost use Rattle.graph_steps.specs.StepLists.{step_of};

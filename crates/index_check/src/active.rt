@@ -27,7 +27,7 @@ use crate::keys::{block_of, write_blocks};
 use crate::levels::level_both;
 use crate::listing::{list_all, list_moved, with_rest};
 use crate::neighbour_lists::neighbours;
-use crate::parts::{Sizes, is_marked, is_shared, name_groups, number_at};
+use crate::part_sizes::{Sizes, is_marked, is_shared, name_groups, number_at};
 use bisim_spec::Side;
 use hash_index::HashIndex;
 use key_table::{KeyTable, sort_dedup};

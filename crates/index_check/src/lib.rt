@@ -13,7 +13,7 @@ mod listing;
 mod minimal;
 mod neighbour_lists;
 mod outer;
-mod parts;
+mod part_sizes;
 mod refining;
 mod stability;
 

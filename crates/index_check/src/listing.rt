@@ -5,7 +5,7 @@ ghost use Rattle.graph_spec.specs.Members.{at};
 ghost use Rattle.index_check.specs.Listing.{IsListed, ListsNode, ListsMoved, AddsNode, IsWidened};
 
 use crate::keys::block_of;
-use crate::parts::Sizes;
+use crate::part_sizes::Sizes;
 use hash_index::HashIndex;
 use key_table::sort_dedup;
 use px_base::Memory;

@@ -3,7 +3,7 @@ ghost use Rattle.std.specs.Prelude.{◌≡◌, ◌<◌, IfOk, OnOk, OnErr, None}
 ghost use Rattle.graph_steps.specs.NewChanges.{IsNew};
 ghost use Rattle.index_api.specs.Meanings.{IsReady, IsPrepared};
 
-use crate::views::KeptViews;
+use crate::kept_views::KeptViews;
 use graph_update::Change;
 use index_api::{Kind, PathIndex};
 use label_graph::{Graph, GraphView};

@@ -5,7 +5,7 @@
 #![tactic(auto)]
 
 mod index;
-mod views;
+mod kept_views;
 
 pub use index::KeptIndex;
-pub use views::KeptViews;
+pub use kept_views::KeptViews;

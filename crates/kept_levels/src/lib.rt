@@ -4,6 +4,6 @@
 //! `KeptLevels` serves both families. Which it is, its parameter says: a type for the sides that count.
 #![tactic(auto)]
 
-mod kept;
+mod levels;
 
-pub use kept::{CountedSides, KeptLevels};
+pub use levels::{CountedSides, KeptLevels};

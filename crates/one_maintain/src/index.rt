@@ -1,5 +1,5 @@
 // The index.
-use crate::kept::KeptSummary;
+use crate::summary::KeptSummary;
 use kept_index::KeptIndex;
 
 /// The 1-index of a graph, kept while it changes (K. Yi, H. He, I. Stanoi and J. Yang, "Incremental Maintenance of XML

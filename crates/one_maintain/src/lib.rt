@@ -2,8 +2,8 @@
 #![tactic(auto)]
 
 mod index;
-mod kept;
+mod summary;
 
 pub use index::OneKept;
-pub use kept::KeptSummary;
+pub use summary::KeptSummary;
 pub use one_update::{merge, split};

@@ -18,7 +18,7 @@ use Rattle.quotient.specs.Quotients.{Quotient}
 use Rattle.quotient_draft.specs.Drafts.{Drafted, has_member, inhabited_from, settled_view, shown_blocks, shown_labels, shown_support}
 use Rattle.one_merge.specs.MergeTests.{shown_adjacent}
 use Rattle.one_merge.specs.Merged.{merged_support, with_column}
-use Rattle.one_merge.specs.Shown.{ShowsStablePartition, AreShownNotMergeable}
+use Rattle.one_merge.specs.MergeableShown.{ShowsStablePartition, AreShownNotMergeable}
 use Rattle.one_merge.specs.ParentlessBlocks.{ParentlessLists, IsNoted, IsParentless, CoversParentless, CoversBase, CoversShown, NotesParentless}
 use Rattle.one_merge.proofs.Columns.{Which, goes, stays, else_, which, column_there}
 use Rattle.one_merge.proofs.MergedSupports.{row_here, row_there}

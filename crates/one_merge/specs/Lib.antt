@@ -1,5 +1,5 @@
 pub mod MergeTests
 pub mod Merged
-pub mod Shown
+pub mod MergeableShown
 pub mod ParentlessBlocks
 pub mod ShownMerges

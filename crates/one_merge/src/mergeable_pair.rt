@@ -4,7 +4,7 @@ ghost use Rattle.std.specs.List.{list_any};
 ghost use Rattle.graph_spec.specs.Members.{at};
 ghost use Rattle.quotient_draft.specs.Drafts.{shown_labels, shown_blocks};
 ghost use Rattle.one_merge.specs.MergeTests.{shown_adjacent, adjacent_merged, AreParentsSatisfied};
-ghost use Rattle.one_merge.specs.Shown.{AreShownMergeable, AreShownNotMergeable, AreDraftedParents};
+ghost use Rattle.one_merge.specs.MergeableShown.{AreShownMergeable, AreShownNotMergeable, AreDraftedParents};
 
 use label_graph::Digraph;
 use quotient::Summary;

@@ -6,7 +6,7 @@ ghost use Rattle.one_spec.specs.Merges.{IsMerged};
 ghost use Rattle.quotient_draft.specs.Drafts.{shown_labels, shown_blocks, shown_support};
 ghost use Rattle.quotient_draft.specs.Basis.{IsOver};
 ghost use Rattle.one_merge.specs.Merged.{merged_support};
-ghost use Rattle.one_merge.specs.Shown.{ShowsSupportsOfGraph, AreShownMergeable, StayEdgeCounts, LabelsStayRight, KeepsStablePartition, PutsNodes};
+ghost use Rattle.one_merge.specs.MergeableShown.{ShowsSupportsOfGraph, AreShownMergeable, StayEdgeCounts, LabelsStayRight, KeepsStablePartition, PutsNodes};
 
 use crate::supports::merge_supports;
 use px_base::{Memory, NodeId};

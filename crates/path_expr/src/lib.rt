@@ -6,10 +6,10 @@
 
 mod answers;
 mod compile;
-mod front;
+mod trimming;
 mod lengths;
 mod nullable;
-mod parts;
+mod tree_parts;
 mod tree;
 
 pub use answers::{eval, eval_within};

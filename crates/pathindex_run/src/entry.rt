@@ -15,7 +15,7 @@ ghost use Rattle.pathindex_run.specs.StatusCodes.{code_of};
 ghost use Rattle.pathindex_run.specs.ObservableFiles.{BeginsObservable};
 
 use crate::check::run_check;
-use crate::made::run_made;
+use crate::seeded::run_seeded;
 use crate::output::{show_refusal, show_usage};
 use crate::status::{Status, status_of};
 use command_line::{Form, Settings, read_words};
@@ -118,7 +118,7 @@ fn run_words<B: PathIndex, H: Shelf, K: Sink>(
 {
     match read_words(alloc, words) {
         Ok(Form::Run(settings)) => run_settings(alloc, &settings, engine, shelf, sink),
-        Ok(Form::Make(seed)) => run_made(alloc, seed, engine, sink),
+        Ok(Form::Make(seed)) => run_seeded(alloc, seed, engine, sink),
         Ok(Form::Check(file)) => run_check(alloc, file, engine, shelf, sink),
         Ok(Form::Neither) => show_usage(sink),
         Err(_) => Status::NoMemory,

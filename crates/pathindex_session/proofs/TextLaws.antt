@@ -17,7 +17,7 @@ use Rattle.pathindex_core.specs.declared.errors.AskError.{AskError}
 use Rattle.pathindex_core.specs.declared.errors.AskError.TheVariants as ask_error
 use Rattle.pathindex_core.specs.Engines.{kept_in}
 use Rattle.pathindex_core.specs.QueryAnswers.{NamesMissingIndex}
-use Rattle.walk_spec.specs.Shown.{Shows}
+use Rattle.walk_spec.specs.LeastWalks.{Shows}
 use Rattle.pathindex_session.specs.declared.errors.QueryError.{QueryError}
 use Rattle.pathindex_session.specs.declared.errors.QueryError.TheVariants.{Refused, Syntax, Memory}
 use Rattle.pathindex_session.specs.Asked.{of_text, of_ask}

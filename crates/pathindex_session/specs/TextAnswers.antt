@@ -14,7 +14,7 @@ use Rattle.index_api.specs.declared.kinds.Via.{Via}
 use Rattle.index_api.specs.declared.answers.How.{How}
 use Rattle.pathindex_core.specs.Engines.{kept_in}
 use Rattle.pathindex_core.specs.QueryAnswers.{IsAnswered, NamesMissingIndex}
-use Rattle.walk_spec.specs.Shown.{IsLeast, Shows}
+use Rattle.walk_spec.specs.LeastWalks.{IsLeast, Shows}
 use Rattle.pathindex_session.specs.declared.errors.QueryError.{QueryError}
 use Rattle.pathindex_session.specs.declared.errors.QueryError.TheVariants.{Refused, Syntax, Memory}
 use Rattle.pathindex_session.specs.Sessions.{SessionOf, engine_in, graph_of}

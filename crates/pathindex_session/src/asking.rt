@@ -13,7 +13,7 @@ ghost use Rattle.extent_report.specs.PrintedLists.{ListsIndex, ListsSizes};
 ghost use Rattle.pathindex_core.specs.Engines.{by_meaning, kept_in};
 ghost use Rattle.pathindex_core.specs.Calls.{KeepsAllButViews};
 ghost use Rattle.pathindex_core.specs.EngineTerms.{engine_graph};
-ghost use Rattle.walk_spec.specs.Shown.{IsLeast};
+ghost use Rattle.walk_spec.specs.LeastWalks.{IsLeast};
 ghost use Rattle.pathindex_session.specs.Sessions.{IsReady};
 ghost use Rattle.pathindex_session.specs.Asked.{IsAsked};
 

@@ -5,7 +5,7 @@ use Rattle.graph_spec.specs.Graphs.{is_live}
 use Rattle.graph_spec.specs.Shapes.{Shape, shape_of}
 use Rattle.path_spec.specs.Trees.{Expr}
 use Rattle.path_spec.specs.PathAnswers.{IsAnswer}
-use Rattle.walk_spec.specs.Shown.{Shows, IsLeast}
+use Rattle.walk_spec.specs.LeastWalks.{Shows, IsLeast}
 use Rattle.extent_report.specs.PrintedAnswers.{walk_text}
 use Rattle.script_interpreter.specs.LineTexts.{refused_line, none_line, yes_line, no_line}
 use Rattle.script_interpreter.specs.States.{State}

@@ -4,7 +4,7 @@ use Rattle.std.specs.Prelude.{slice_get, option_and_then, is_some, IsSome}
 use Rattle.graph_spec.specs.Shapes.{Shape}
 use Rattle.path_spec.specs.Matches.{Word}
 use Rattle.path_spec.specs.Trees.{Expr}
-use Rattle.walk_spec.specs.Shown.{EndIn, Shows}
+use Rattle.walk_spec.specs.LeastWalks.{EndIn, Shows}
 
 end_labelled : (s : Shape) (v : ℕ) (nodes : List ℕ) (w : Word) → map s.label nodes ≡ map Some w → EndIn nodes v → (t : List ℕ) × (s.label v ≡ Some t)
 end_labelled s v [] w h e = absurd e

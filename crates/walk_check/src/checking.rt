@@ -6,7 +6,7 @@ ghost use Rattle.path_automaton.specs.Digraphs.{shape_through};
 ghost use Rattle.path_automaton.specs.NewMarks.{IsPlace};
 ghost use Rattle.path_automaton.specs.Programs.{state_at};
 ghost use Rattle.path_automaton.specs.ProductSteps.{leads};
-ghost use Rattle.walk_spec.specs.Shown.{Shows};
+ghost use Rattle.walk_spec.specs.LeastWalks.{Shows};
 ghost use Rattle.walk_spec.specs.Ways.{WayThrough};
 ghost use Rattle.state_sets.specs.StateSets.{AreClosed};
 

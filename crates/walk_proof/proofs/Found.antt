@@ -10,7 +10,7 @@ use Rattle.path_spec.specs.Trees.{Expr}
 use Rattle.path_spec.specs.PathAnswers.{IsAnswer}
 use Rattle.path_expr.specs.ExprAutomata.{Stands}
 use Rattle.path_expr.proofs.ProductSearch.{IsTabled}
-use Rattle.walk_spec.specs.Shown.{IsLeast}
+use Rattle.walk_spec.specs.LeastWalks.{IsLeast}
 use Rattle.walk_spec.specs.Ways.{Way}
 use Rattle.walk_spec.proofs.ShownAnswers.{answer_shown}
 use Rattle.walk_spec.proofs.WayLaws.{shows_way, way_shows}

@@ -8,7 +8,7 @@ use Rattle.px_base.specs.BitSets.{BitSet}
 use Rattle.path_automaton.specs.declared.state.State.{State}
 use Rattle.path_automaton.specs.ProductSteps.{leads}
 use Rattle.path_automaton.specs.NewMarks.{Enters}
-use Rattle.walk_spec.specs.Shown.{IsLess}
+use Rattle.walk_spec.specs.LeastWalks.{IsLess}
 use Rattle.walk_spec.specs.Ways.{Takes, Way, done, enter, take}
 use Rattle.state_sets.specs.StateSets.{AreClosed, Behind}
 use Rattle.walk_proof.specs.declared.marks.Pair.{Pair}

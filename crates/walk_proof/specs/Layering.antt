@@ -11,7 +11,7 @@ use Rattle.path_automaton.specs.ProductSteps.{leads}
 use Rattle.path_automaton.specs.NewMarks.{Enters, IsPlace}
 use Rattle.path_spec.specs.Trees.{Expr}
 use Rattle.path_spec.specs.PathAnswers.{IsAnswer}
-use Rattle.walk_spec.specs.Shown.{Before, IsLeast}
+use Rattle.walk_spec.specs.LeastWalks.{Before, IsLeast}
 use Rattle.walk_spec.specs.Ways.{Takes, Way, WayThrough}
 use Rattle.state_sets.specs.StateSets.{ForkedTo, Behind}
 use Rattle.walk_proof.specs.declared.marks.Pair.{Pair}

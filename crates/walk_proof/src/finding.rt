@@ -6,7 +6,7 @@ ghost use Rattle.label_graph.specs.GraphViews.{live_count, edge_count};
 ghost use Rattle.path_spec.specs.PathAnswers.{IsAnswer};
 ghost use Rattle.path_automaton.specs.Programs.{state_at};
 ghost use Rattle.path_automaton.specs.Digraphs.{shape_through};
-ghost use Rattle.walk_spec.specs.Shown.{IsLeast};
+ghost use Rattle.walk_spec.specs.LeastWalks.{IsLeast};
 ghost use Rattle.walk_proof.specs.Marking.{IsMarked, HasRoom};
 ghost use Rattle.walk_proof.specs.Sources.{AreSources};
 ghost use Rattle.walk_proof.specs.Layering.{IsFound, IsFoundWay};

@@ -4,7 +4,7 @@ use Rattle.std.specs.Prelude.{◌&&◌, nat_eq, codes, slice_get}
 use Rattle.std.specs.List.{list_any}
 use Rattle.graph_spec.specs.Shapes.{Shape}
 use Rattle.path_spec.specs.Trees.{star, child, below, Expr, only, or, last, then, once, signed, Atom, label, group}
-use Rattle.walk_spec.specs.Shown.{Before, IsLeast}
+use Rattle.walk_spec.specs.LeastWalks.{Before, IsLeast}
 use Rattle.walk_spec.specs.Tests.{shows}
 use Rattle.walk_spec.proofs.ShownTests.{shows_is}
 use Rattle.walk_spec.proofs.LeastWalks.{one_least}

@@ -2,7 +2,7 @@
 use Rattle.std.proofs.Common.{◌≡◌, ℕ, ◌⊎◌, inl, inr, List, [], ◌∷◌, sym, ap, arith}
 use Rattle.graph_spec.specs.Shapes.{Shape}
 use Rattle.path_spec.specs.Trees.{Expr}
-use Rattle.walk_spec.specs.Shown.{EndIn, Shows, IsLess, Before, IsLeast}
+use Rattle.walk_spec.specs.LeastWalks.{EndIn, Shows, IsLess, Before, IsLeast}
 
 less_once : (nodes others : List ℕ) → IsLess nodes others → IsLess others nodes → ⊥
 less_once [] others h k = h

@@ -5,7 +5,7 @@ use Rattle.graph_spec.specs.Walks.{Leads}
 use Rattle.path_spec.specs.Trees.{Expr}
 use Rattle.path_spec.specs.Matches.{Word, Matches}
 use Rattle.path_spec.specs.PathAnswers.{IsAnswer}
-use Rattle.walk_spec.specs.Shown.{AreLinked, EndIn, Shows}
+use Rattle.walk_spec.specs.LeastWalks.{AreLinked, EndIn, Shows}
 
 leads_by : (s : Shape) (v : ℕ) (nodes : List ℕ) (u : ℕ) (t : List ℕ) (w : Word) → map s.label (u ∷ nodes) ≡ map Some (t ∷ w) → AreLinked s (u ∷ nodes) → EndIn (u ∷ nodes) v
     → Leads s u (t ∷ w) v

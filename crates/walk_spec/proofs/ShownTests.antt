@@ -6,7 +6,7 @@ use Rattle.graph_spec.specs.Shapes.{Shape}
 use Rattle.path_spec.specs.Trees.{Expr}
 use Rattle.path_spec.specs.Matches.{Word, Matches}
 use Rattle.path_spec.proofs.WordTests.{says}
-use Rattle.walk_spec.specs.Shown.{AreLinked, EndIn, Shows}
+use Rattle.walk_spec.specs.LeastWalks.{AreLinked, EndIn, Shows}
 use Rattle.walk_spec.specs.Tests.{labelled, word_of, are_linked, end_in, word_matches, shows}
 
 linked_is : (s : Shape) (nodes : List ℕ) → are_linked s nodes ≡ true → AreLinked s nodes

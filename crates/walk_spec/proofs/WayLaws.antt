@@ -15,7 +15,7 @@ use Rattle.path_expr.specs.ExprAutomata.{ReadsFrom, Run, Known, Stands}
 use Rattle.path_expr.proofs.AutomatonWords.{reads_by, read_by, read_matches, matches_read}
 use Rattle.path_expr.proofs.LabelNumbers.{number_one}
 use Rattle.path_expr.proofs.ProductSearch.{IsTabled, some_is}
-use Rattle.walk_spec.specs.Shown.{AreLinked, EndIn, Shows}
+use Rattle.walk_spec.specs.LeastWalks.{AreLinked, EndIn, Shows}
 use Rattle.walk_spec.specs.Ways.{Takes, Way, done, enter, take}
 
 module _ (texts : List (List ℕ)) (at : ℕ → Option State) (size : ℕ) (label_at : ℕ → Option ℕ) (edge : ℕ → ℕ → Bool) (v : ℕ) where

@@ -1,3 +1,3 @@
-pub mod Shown
+pub mod LeastWalks
 pub mod Tests
 pub mod Ways

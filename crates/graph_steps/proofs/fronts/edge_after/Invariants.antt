@@ -1,5 +1,5 @@
 use Rattle.std.proofs.Common.{◌≡◌, ◌-◌, length}
-use Rattle.change_spec.specs.Shown.{edge_after}
+use Rattle.change_spec.specs.EdgesAfter.{edge_after}
 use Rattle.graph_steps.proofs.NamedParts.{stretch}
 use Rattle.graph_steps.proofs.fronts.edge_after.Given as goal
 

@@ -15,22 +15,22 @@ returns-in-Err-clause-does g c = unread (form_of (map string_bytes c.args.words.
 pub returns-in-Ok-Make-clause-does : goal.returns-in-Ok-Make-clause-does
 returns-in-Ok-Make-clause-does g c =
     let e = rw c.in-Ok-Make.field-0-is at c.in-Ok-Make.ensures.exact in
-    rw (← e) c.run_made.ensures.does
+    rw (← e) c.run_seeded.ensures.does
 
 pub returns-in-Ok-Make-clause-status : goal.returns-in-Ok-Make-clause-status
 returns-in-Ok-Make-clause-status g c =
     let e = rw c.in-Ok-Make.field-0-is at c.in-Ok-Make.ensures.exact in
-    rw (← e) (made_status c.in-Ok-Make.seed (g.H.Shelf.files c.args.shelf.now) _ _ _ _ c.run_made.ensures.status)
+    rw (← e) (made_status c.in-Ok-Make.seed (g.H.Shelf.files c.args.shelf.now) _ _ _ _ c.run_seeded.ensures.status)
 
 pub returns-in-Ok-Make-clause-complete : goal.returns-in-Ok-Make-clause-complete
 returns-in-Ok-Make-clause-complete g c =
     let e = rw c.in-Ok-Make.field-0-is at c.in-Ok-Make.ensures.exact in
     rw (← e) (made_completes c.in-Ok-Make.seed (kinds_of (map g.B.PathIndex.meaning c.args.engine.now.boxes)) (g.H.Shelf.files c.args.shelf.now) _ _ _ _ _ _
-    (IsIn (by_meaning g.B.PathIndex.meaning c.run_made.new.engine)) c.run_made.ensures.does c.run_made.ensures.status)
+    (IsIn (by_meaning g.B.PathIndex.meaning c.run_seeded.new.engine)) c.run_seeded.ensures.does c.run_seeded.ensures.status)
 
 pub returns-in-Ok-Make-clause-seed : goal.returns-in-Ok-Make-clause-seed
 returns-in-Ok-Make-clause-seed g c = λ seed e f.
-    made_ends c.in-Ok-Make.seed (kinds_of (map g.B.PathIndex.meaning c.args.engine.now.boxes)) _ _ _ _ _ (IsIn (by_meaning g.B.PathIndex.meaning c.run_made.new.engine)) c.run_made.ensures.does c.run_made.ensures.status f
+    made_ends c.in-Ok-Make.seed (kinds_of (map g.B.PathIndex.meaning c.args.engine.now.boxes)) _ _ _ _ _ (IsIn (by_meaning g.B.PathIndex.meaning c.run_seeded.new.engine)) c.run_seeded.ensures.does c.run_seeded.ensures.status f
 
 pub returns-in-Ok-Check-clause-does : goal.returns-in-Ok-Check-clause-does
 returns-in-Ok-Check-clause-does g c =

@@ -2,7 +2,7 @@ use Rattle.std.proofs.Common.{◌≡◌, ◌∙◌, ap, sym, subst, true}
 use Rattle.std.proofs.lemmas.Bool.{and_parts}
 use Rattle.graph_spec.specs.Graphs.{IsGraph, is_live}
 use Rattle.change_spec.specs.Named.{is_dropped}
-use Rattle.change_spec.specs.Shown.{edge_after}
+use Rattle.change_spec.specs.EdgesAfter.{edge_after}
 use Rattle.change_spec.proofs.ShownNeighbours.{edge_all}
 use Rattle.graph_steps.proofs.NamedParts.{live_stays}
 use Rattle.graph_update.specs.PendingChanges.{Pending, graph_after}
