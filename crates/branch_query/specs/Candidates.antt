@@ -21,8 +21,8 @@ loose s r = record {
 
 -- the node answers the query, or its relaxed form, over the loose graph
 abbrev pub IsCandidate : Shape → (ℕ → ℕ → Bool) → Query → Bool → ℕ → Type 0
-IsCandidate s r q whole v = IsQueryAnswer (loose s r) (searched_form whole q) v
+IsCandidate s r q unrelaxed v = IsQueryAnswer (loose s r) (searched_form unrelaxed q) v
 
 -- the nodes are the candidates of the whole query, or of its relaxed form, each once, in the order of their numbers
 abbrev pub AreCandidates : Shape → (ℕ → ℕ → Bool) → Query → Bool → List ℕ → Type 0
-AreCandidates s r q whole nodes = AreQueryAnswers (loose s r) (searched_form whole q) nodes
+AreCandidates s r q unrelaxed nodes = AreQueryAnswers (loose s r) (searched_form unrelaxed q) nodes

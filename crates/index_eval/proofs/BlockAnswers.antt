@@ -38,16 +38,16 @@ module _ (g : Graph) (is_graph : IsGraph g) (v : View) (fits : ViewFits g v) (r 
       refl_of : (n b : ℕ) → at v.block_of n ≡ Some b → block_or_past v n ≡ b
       refl_of n b e = rw e refl
 
-  pub are_candidates : (q : Query) (whole : Bool) (nodes : List ℕ) → AreOfBlocks v.block_of (IsQueryAnswer (shape_of_view g.seen v) (searched_form whole q)) nodes
-      → AreCandidates (shape_of g) r q whole nodes
-  are_candidates q whole nodes h = record {
+  pub are_candidates : (q : Query) (unrelaxed : Bool) (nodes : List ℕ) → AreOfBlocks v.block_of (IsQueryAnswer (shape_of_view g.seen v) (searched_form unrelaxed q)) nodes
+      → AreCandidates (shape_of g) r q unrelaxed nodes
+  are_candidates q unrelaxed nodes h = record {
     rising = h.rising;
     sound = λ n m.
         let b = h.sound n m in
-        node_answers_query (searched_form whole q) n (subst (IsQueryAnswer (shape_of_view g.seen v) (searched_form whole q)) (sym (block_is n b.0 b.1)) b.2);
+        node_answers_query (searched_form unrelaxed q) n (subst (IsQueryAnswer (shape_of_view g.seen v) (searched_form unrelaxed q)) (sym (block_is n b.0 b.1)) b.2);
     complete = λ n a.
-        let b = some_of (at v.block_of n) (agrees.partition.live n (answer_node (loose (shape_of g) r) (searched_form whole q) n a)) in
-        h.complete n b.0 b.1 (subst (IsQueryAnswer (shape_of_view g.seen v) (searched_form whole q)) (block_is n b.0 b.1) (block_answers_query (searched_form whole q) n a));
+        let b = some_of (at v.block_of n) (agrees.partition.live n (answer_node (loose (shape_of g) r) (searched_form unrelaxed q) n a)) in
+        h.complete n b.0 b.1 (subst (IsQueryAnswer (shape_of_view g.seen v) (searched_form unrelaxed q)) (block_is n b.0 b.1) (block_answers_query (searched_form unrelaxed q) n a));
   }
 
 -- the blocks of a partition are the classes of the test for one block

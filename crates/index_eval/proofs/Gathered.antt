@@ -12,21 +12,21 @@ use Rattle.index_eval.proofs.BlockSets.{are_of_blocks}
 use Rattle.index_eval.proofs.BlockAnswers.{are_candidates, answers_kept}
 use Rattle.index_eval.proofs.Exact.{exact_answers}
 
-module _ (texts : List (List ℕ)) (v : View) (q : Query) (whole : Bool) where
+module _ (texts : List (List ℕ)) (v : View) (q : Query) (unrelaxed : Bool) where
   -- over the texts of a graph, and the form that is asked
-  over : (set : BitSet) → AreOfAnsweringBlocks texts v q whole set.members → (seen : List (List ℕ)) → seen ≡ texts → (b : Bool) → whole ≡ b
+  over : (set : BitSet) → AreOfAnsweringBlocks texts v q unrelaxed set.members → (seen : List (List ℕ)) → seen ≡ texts → (b : Bool) → unrelaxed ≡ b
       → AreOfBlocks v.block_of (IsQueryAnswer (shape_of_view seen v) (searched_form b q)) set.members
   over set h seen e b w =
       subst (λ t. AreOfBlocks v.block_of (IsQueryAnswer (shape_of_view t v) (searched_form b q)) set.members) (sym e)
       (subst (λ c. AreOfBlocks v.block_of (IsQueryAnswer (shape_of_view texts v) (searched_form c q)) set.members) w h)
 
-  pub candidates_of_each : (set : BitSet) → AreOfAnsweringBlocks texts v q whole set.members → AreCandidatesOfEach texts v q whole set.members
-  candidates_of_each set h g r is_graph seen fits agrees = are_candidates g is_graph v fits r agrees q whole set.members (over set h g.seen seen whole (λ i. whole))
+  pub candidates_of_each : (set : BitSet) → AreOfAnsweringBlocks texts v q unrelaxed set.members → AreCandidatesOfEach texts v q unrelaxed set.members
+  candidates_of_each set h g r is_graph seen fits agrees = are_candidates g is_graph v fits r agrees q unrelaxed set.members (over set h g.seen seen unrelaxed (λ i. unrelaxed))
 
-  pub kept_of_each : (set : BitSet) → AreOfAnsweringBlocks texts v q whole set.members → HaveAnswersOfEach texts v q whole set.members
+  pub kept_of_each : (set : BitSet) → AreOfAnsweringBlocks texts v q unrelaxed set.members → HaveAnswersOfEach texts v q unrelaxed set.members
   kept_of_each set h g is_graph seen fits p w n a = answers_kept g is_graph v fits p q set.members (over set h g.seen seen false w) n a
 
-  pub exact_of_each : (set : BitSet) → AreOfAnsweringBlocks texts v q whole set.members → AreAnswersOfEach texts v q whole set.members
+  pub exact_of_each : (set : BitSet) → AreOfAnsweringBlocks texts v q unrelaxed set.members → AreAnswersOfEach texts v q unrelaxed set.members
   exact_of_each set h g via is_graph seen fits exact w = exact_answers g is_graph v via fits q exact set.members (over set h g.seen seen true w)
 
 -- the members of the blocks, by the clauses on them

@@ -21,14 +21,14 @@ fn answering_blocks(
     summary: &Summary,
     labels: &Labels,
     q: &Query<'_>,
-    whole: bool,
+    unrelaxed: bool,
 ) -> Result<Bits, Memory>
     requires labelled { (b l : ℕ) → at summary.now.blocks.labels b ≡ Some l → l < length labels.now.texts }
-    ensures { IfOk result (λ b. AreQueryAnswers (shape_of_view labels.now.texts (view_of summary.now)) (searched_form whole (query_of q.now)) b.members) }
+    ensures { IfOk result (λ b. AreQueryAnswers (shape_of_view labels.now.texts (view_of summary.now)) (searched_form unrelaxed (query_of q.now)) b.members) }
 {
     // Called for its contract: as a graph the summary is the index graph.
     let _known = summary.blocks();
-    if whole {
+    if unrelaxed {
         q.answers(alloc, summary, labels)
     } else {
         q.relaxed_answers(alloc, summary, labels)
@@ -67,9 +67,9 @@ fn extents(alloc: Global, summary: &Summary, blocks: &Bits) -> Result<Bits, Memo
     Ok(set)
 }
 
-/// The nodes of the blocks that answer the query over the index graph: the query itself where `whole` is true, else its
+/// The nodes of the blocks that answer the query over the index graph: the query itself where `unrelaxed` is true, else its
 /// relaxed form. They are a set of numbers below `summary.numbers()`. Where `is_exact` says that the index is exact for the
-/// query, and `whole` is true, they are the answers of the graph. Where `whole` is false, all answers of the graph are
+/// query, and `unrelaxed` is true, they are the answers of the graph. Where `unrelaxed` is false, all answers of the graph are
 /// among them, whatever the index.
 ///
 /// It sees no graph. `Memory` comes only where memory runs out. O(m (b + p) + n) for m tokens, b numbers of blocks and
@@ -80,15 +80,15 @@ pub fn candidates(
     summary: &Summary,
     labels: &Labels,
     q: &Query<'_>,
-    whole: bool,
+    unrelaxed: bool,
 ) -> Result<Bits, Memory>
     requires labelled { (b l : ℕ) → at summary.now.blocks.labels b ≡ Some l → l < length labels.now.texts }
     ensures size { IfOk result (λ set. set.size ≡ length summary.now.blocks.block_of) }
-    ensures members { IfOk result (λ set. AreOfAnsweringBlocks labels.now.texts (view_of summary.now) (query_of q.now) whole set.members) }
-    ensures candidates { IfOk result (λ set. AreCandidatesOfEach labels.now.texts (view_of summary.now) (query_of q.now) whole set.members) }
-    ensures kept { IfOk result (λ set. HaveAnswersOfEach labels.now.texts (view_of summary.now) (query_of q.now) whole set.members) }
-    ensures exact { IfOk result (λ set. AreAnswersOfEach labels.now.texts (view_of summary.now) (query_of q.now) whole set.members) }
+    ensures members { IfOk result (λ set. AreOfAnsweringBlocks labels.now.texts (view_of summary.now) (query_of q.now) unrelaxed set.members) }
+    ensures candidates { IfOk result (λ set. AreCandidatesOfEach labels.now.texts (view_of summary.now) (query_of q.now) unrelaxed set.members) }
+    ensures kept { IfOk result (λ set. HaveAnswersOfEach labels.now.texts (view_of summary.now) (query_of q.now) unrelaxed set.members) }
+    ensures exact { IfOk result (λ set. AreAnswersOfEach labels.now.texts (view_of summary.now) (query_of q.now) unrelaxed set.members) }
 {
-    let blocks = answering_blocks(alloc, summary, labels, q, whole)?;
+    let blocks = answering_blocks(alloc, summary, labels, q, unrelaxed)?;
     extents(alloc, summary, &blocks)
 }

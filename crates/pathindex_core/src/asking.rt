@@ -66,10 +66,10 @@ fn ask_view<L: Ledger>(
     ensures cost { IsExact via (query_of query.now) → steps.new ≡ steps.old }
     ensures graph { IfOk result (λ _. IsGraph graph.now.graph) }
 {
-    let whole = is_exact(via, query);
-    let set = candidates(alloc, summary, graph.labels(), query, whole)?;
+    let unrelaxed = is_exact(via, query);
+    let set = candidates(alloc, summary, graph.labels(), query, unrelaxed)?;
     let count = set.count();
-    if whole {
+    if unrelaxed {
         return Ok(Answer {
             nodes: set,
             how: How::Exact(count),
