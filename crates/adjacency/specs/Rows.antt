@@ -9,7 +9,9 @@ rows_in from (end ∷ ends) items = slice_range items from end ∷ rows_in end e
 
 -- each row ends where it begins or behind, and within the array
 pub record AreEnds (ends : List ℕ) (count : ℕ) : Type 0 where
+  -- no row ends before it begins
   pub rise : (n : ℕ) → n < length ends → get_or (0 ∷ ends) n 0 ≤ get_or ends n 0
+  -- no row ends past the array
   pub within : (n : ℕ) → n < length ends → get_or ends n 0 ≤ count
 
 -- the rows that f gives of so many numbers, from one on

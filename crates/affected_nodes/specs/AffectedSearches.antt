@@ -23,7 +23,9 @@ within found i = take (slice_index found.ends i) found.nodes
 
 -- for each number of edges up to k the nodes are found that are within it
 pub record AreWithinDistance (s : Shape) (from : ℕ → Bool) (k : ℕ) (found : Searched) : Type 0 where
+  -- one count for each number of edges, from 0 to k
   pub count : length found.ends ≡ k + 1
+  -- the nodes found by then are just those within so many edges
   pub each : (i : ℕ) → i ≤ k → Lists (within_distance s from i) (within found i)
 
 -- the children of the first i of the nodes are put behind them

@@ -48,6 +48,7 @@ pub record AreKeyedBySupports (sides : Sides) (below block : List (Option ℕ)) 
 
 -- the keys of the levels above the lowest are as the supports say
 pub record HaveSupportedKeys (sides : Sides) (levels : List KeyedQuotient) : Type 0 where
+  -- the key of a block has its block one level below, and those of the blocks that it has support with
   pub above : (i : ℕ) → i + 1 < length levels
       → AreKeyedBySupports sides (blocks_at levels i) (blocks_at levels (i + 1)) (key_at (level_at levels (i + 1)).keys)
       (support_at (level_at levels (i + 1)).quotient.supports)
@@ -59,12 +60,18 @@ HaveMembers levels = (i : ℕ) → i < length levels → AreInhabited (level_at 
 -- What each family keeps, whatever graph it is of, and whichever sides count: exactly the blocks of each level have
 -- keys, no two the same, each block has a member, and the keys of the lowest level are its labels.
 pub record IsKeyedFamily (levels : List KeyedQuotient) : Type 0 where
+  -- exactly the blocks of a level have keys, each its own
   pub keyed : (i : ℕ) → i < length levels → AreKeyed (level_at levels i).quotient.blocks.labels (key_at (level_at levels i).keys)
+  -- each block has a member
   pub inhabited : HaveMembers levels
+  -- at the lowest level the key is the label
   pub lowest : AreLabelled (level_at levels 0).quotient.blocks.labels (key_at (level_at levels 0).keys)
 
 -- a family of few levels
 pub record IsFamily (levels : List KeyedQuotient) : Type 0 where
+  -- there is a level
   pub some : 0 < length levels
+  -- there are nine at most
   pub few : length levels ≤ 9
+  -- blocks have keys and members
   pub keyed : IsKeyedFamily levels

@@ -31,7 +31,9 @@ key_shown f d i b = shown_key (level_at f i) (changes_at d i) b
 -- The draft was begun over this family, and has its levels. This holds for as long as blocks, labels and keys of the
 -- family stay.
 pub record AreOver (f : List KeyedQuotient) (d : List KeyedChanges) : Type 0 where
+  -- one draft for each level
   pub count : length d ≡ length f
+  -- each is over the level with its number
   pub each : (i : ℕ) → i < length f → IsKeyedOver (level_at f i) (changes_at d i)
 
 -- no other level of the draft has changed
@@ -40,18 +42,27 @@ AreSameBut i old new = (j : ℕ) → j ≢ i → changes_at new j ≡ changes_at
 
 -- a and b are blocks of a level, as the draft over this family shows it
 pub record AreBlocksThere (f : List KeyedQuotient) (d : List KeyedChanges) (i a b : ℕ) : Type 0 where
+  -- the draft is over the family
   pub over : AreOver f d
+  -- there is such a level
   pub level : i < length f
+  -- a is a block there
   pub from : IsSome (at (labels_shown f d i) a)
+  -- b is a block there
   pub onto : IsSome (at (labels_shown f d i) b)
 
 -- Nothing but supports of level i has changed: its nodes have the same blocks, with the same labels and keys, and the
 -- other levels are the same. The draft is still over this family.
 pub record KeepsAllButSupports (f : List KeyedQuotient) (i : ℕ) (old new : List KeyedChanges) : Type 0 where
+  -- nodes keep their blocks
   pub blocks : blocks_shown f new i ≡ blocks_shown f old i
+  -- blocks keep their labels
   pub labels : labels_shown f new i ≡ labels_shown f old i
+  -- blocks keep their keys
   pub keys : (b : ℕ) → key_shown f new i b ≡ key_shown f old i b
+  -- other levels are the same
   pub others : AreSameBut i old new
+  -- the draft is still over the family
   pub over : AreOver f new
 
 -- nothing is drafted at any level
@@ -88,22 +99,31 @@ HaveReserved f d = (i : ℕ) → i < length f → HasReservedKeys (level_at f i)
 
 -- What the draft shows is a family. No pair with a block without members has support.
 pub record ShowsFamily (f : List KeyedQuotient) (d : List KeyedChanges) : Type 0 where
+  -- the draft is over the family
   pub over : AreOver f d
+  -- at the lowest level the key is the label
   pub lowest : AreLabelled (labels_shown f d 0) (key_shown f d 0)
+  -- a block without members has no support
   pub empty : (i : ℕ) → i < length f → AreUnsupported (blocks_shown f d i) (support_shown f d i)
 
 -- its keys are as the levels below and the supports say
 pub record ShowsKeys (sides : Sides) (f : List KeyedQuotient) (d : List KeyedChanges) : Type 0 where
+  -- the key of a block has its block one level below, and those of the blocks that it has support with
   pub above : (i : ℕ) → i + 1 < length f
       → AreKeyedBySupports sides (blocks_shown f d i) (blocks_shown f d (i + 1)) (key_shown f d (i + 1)) (support_shown f d (i + 1))
 
 -- each level has become what the draft showed there, without blocks that have no members
 pub record AreSettled (f : List KeyedQuotient) (d : List KeyedChanges) (new : List KeyedQuotient) : Type 0 where
+  -- there are as many levels as before
   pub count : length new ≡ length f
+  -- each level is what the draft showed of it
   pub each : (i : ℕ) → i < length f → IsSettled (level_at f i) (changes_at d i) (level_at new i)
 
 -- the families are the same but for reserved capacity
 pub record AreSeenAs (old new : List KeyedQuotient) : Type 0 where
+  -- there are as many levels
   pub count : length new ≡ length old
+  -- each level has the same blocks, labels and supports
   pub views : (i : ℕ) → view_of (level_at new i).quotient ≡ view_of (level_at old i).quotient
+  -- each level has the same keys
   pub keys : (i : ℕ) → (level_at new i).keys ≡ (level_at old i).keys

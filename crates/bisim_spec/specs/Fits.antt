@@ -32,7 +32,9 @@ kind_of Both = B
 
 -- a view of the 1-index, whose partition is minimal
 pub record FitsOne (g : Graph) (v : View) : Type 0 where
+  -- labels and supports are those of the graph
   pub view : ViewFits g v
+  -- the partition is stable, and no two blocks can be merged
   pub index : IsMinimalIndex (shape_of g) v.block_of
 
 -- a view of the forward and backward index: its blocks are the nodes that are bisimilar by parents and children

@@ -38,7 +38,10 @@ shape_of_view texts v = shape_by texts (length v.labels) (at v.labels) (λ a b. 
 -- The view is one of the graph: each block has a member, members have their block's label, and supports are the numbers of
 -- edges.
 pub record ViewFits (g : Graph) (v : View) : Type 0 where
+  -- each block has a member
   pub inhabited : (b : ℕ) → IsSome (at v.labels b) → (n : ℕ) × (at v.block_of n ≡ Some b)
+  -- each member has its block's label
   pub labelled : (n b : ℕ) → at v.block_of n ≡ Some b
       → (l : ℕ) × (t : List ℕ) × (at v.labels b ≡ Some l) × (slice_get g.seen l ≡ Some t) × (label_of g n ≡ Some t)
+  -- the support of a pair is the number of edges from the one block to the other
   pub supports : (a b : ℕ) → support_at v.supports a b ≡ edges_between g.edges v.block_of a b

@@ -38,4 +38,5 @@ Mergeable s block a b = Stable s (merged a b block)
 
 -- No two distinct blocks can be merged. That the partition is stable is not said here.
 pub record Minimal (s : Shape) (block : List (Option ℕ)) : Type 0 where
+  -- two blocks that both have members can't be merged
   pub apart : (u v a b : ℕ) → at block u ≡ Some a → at block v ≡ Some b → a ≢ b → Mergeable s block a b → ⊥

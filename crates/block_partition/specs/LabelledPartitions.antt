@@ -30,7 +30,9 @@ member_count p b = count_by (is_this b) p.block_of
 
 -- b is the least number that isn't a block
 pub record IsLeastFree (labels : List (Option ℕ)) (b : ℕ) : Type 0 where
+  -- b is no block
   pub free : at labels b ≡ None
+  -- each number below it is one
   pub least : (c : ℕ) → c < b → IsSome (at labels c)
 
 -- the list with this number at that place. Where the place is past the end, the list grows to end with it, with

@@ -19,12 +19,16 @@ pub record BothOrNeither (t : Side) (g : Graph) (splitter : ℕ → Bool) (u v :
 
 -- two nodes are together exactly where they were, and both or neither have a parent in the splitter, and a child
 pub record IsSplitBy (g : Graph) (old new : List (Option ℕ)) (splitter : ℕ → Bool) : Type 0 where
+  -- nodes that are together were so before
   pub finer : (u v : ℕ) → Together new u v → Together old u v
+  -- on each side both or neither of two nodes that are together have a neighbour in the splitter
   pub parted : (t : Side) (u v : ℕ) → Together new u v → BothOrNeither t g splitter u v
+  -- nodes stay together if that holds on both sides
   pub grouped : (u v : ℕ) → Together old u v → BothOrNeither Parents g splitter u v → BothOrNeither Children g splitter u v → Together new u v
 
 -- each node's block has the label that its block had before
 pub record KeepLabels (old new : Partition) : Type 0 where
+  -- the node's new block has the label of its old one
   pub each : (n a b : ℕ) → at old.block_of n ≡ Some a → at new.block_of n ≡ Some b → at new.labels b ≡ at old.labels a
 
 -- the nodes that have a parent in the splitter, those that have a child there, and both together

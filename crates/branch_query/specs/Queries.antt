@@ -29,8 +29,11 @@ IsQueryAnswer s (branch q) v = IsBranchAnswer s q v
 
 -- the nodes are those that answer the query, each once, in the order of their numbers
 pub record AreQueryAnswers (s : Shape) (q : Query) (nodes : List ℕ) : Type 0 where
+  -- from the least number to the greatest, with no repeats
   pub rising : IsStrictlyIncreasing nodes
+  -- each listed node answers
   pub sound : (v : ℕ) → IsTrue (has nodes v) → IsQueryAnswer s q v
+  -- each answer is listed
   pub complete : (v : ℕ) → IsQueryAnswer s q v → IsTrue (has nodes v)
 
 -- What a query asks where more edges may be seen than there are: what it denies is left out, as what holds everywhere. A path

@@ -61,6 +61,9 @@ IsBranchAnswer s (branch st ch) v = (u : ℕ) × Meets s st u × Ends s ch u v
 
 -- the nodes are the answers, each once, in the order of their numbers
 pub record AreBranchAnswers (s : Shape) (q : Branch) (nodes : List ℕ) : Type 0 where
+  -- from the least number to the greatest, with no repeats
   pub rising : IsStrictlyIncreasing nodes
+  -- each listed node answers
   pub sound : (v : ℕ) → IsTrue (has nodes v) → IsBranchAnswer s q v
+  -- each answer is listed
   pub complete : (v : ℕ) → IsBranchAnswer s q v → IsTrue (has nodes v)

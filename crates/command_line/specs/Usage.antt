@@ -4,11 +4,17 @@ use Rattle.command_line.specs.Arguments.{Arguments}
 
 -- SCRIPT [--graph FILE] [--k N] [--without-one] [--without-fb] [--with-bk]
 pub record ScriptUsage : Type 0 where
+  -- the file with the script
   pub script : List ℕ
+  -- the file with the graph, if it is named
   pub graph : Option (List ℕ)
+  -- the highest level, if it is named
   pub k : Option (List ℕ)
+  -- without the 1-index
   pub without_one : Bool
+  -- without the forward and backward index
   pub without_fb : Bool
+  -- with the bounded forward and backward indexes
   pub with_bk : Bool
 
 -- one alternative of the usage line: a script, --make SEED, or --check FILE

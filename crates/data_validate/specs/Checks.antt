@@ -7,9 +7,13 @@ use Rattle.branch_query.specs.Queries.{Query, IsQueryAnswer, AreQueryAnswers}
 
 -- the nodes are those of the set that answer the query, each once, in the order of their numbers
 pub record AreAnswersAmong (s : Shape) (q : Query) (set nodes : List ℕ) : Type 0 where
+  -- from the least number to the greatest, with no repeats
   pub rising : IsStrictlyIncreasing nodes
+  -- each listed node is of the set
   pub among : (v : ℕ) → IsTrue (has nodes v) → IsTrue (has set v)
+  -- each listed node answers
   pub sound : (v : ℕ) → IsTrue (has nodes v) → IsQueryAnswer s q v
+  -- each answer of the set is listed
   pub complete : (v : ℕ) → IsTrue (has set v) → IsQueryAnswer s q v → IsTrue (has nodes v)
 
 -- where the set has all answers, the nodes are the answers

@@ -15,8 +15,11 @@ pub record ShowsIndex (g : Graph) (kept : KeptIndexes) (via : Via) (r : ℕ → 
 
 -- the text lists the blocks of the index
 pub record ListsIndex (g : Graph) (kept : KeptIndexes) (via : Via) (text : List ℕ) : Type 0 where
+  -- whether two nodes are in one block
   pub test : ℕ → ℕ → Bool
+  -- the blocks are those of the index
   pub shows : ShowsIndex g kept via test
+  -- the text lists them, each with its members
   pub text_is : text ≡ extents_text (shape_of g) test
 
 -- the line says how many blocks the index has, and how many pairs of them an edge joins

@@ -71,16 +71,27 @@ is_new_edge g g2 u v = has_edge g2 u v && not (has_edge g u v)
 -- keep their numbers. The targets are nodes of g2: those that come, those that get another label, those to which an
 -- edge comes or goes, and perhaps others.
 pub record AreEffects (g g2 : Graph) (e : EffectLists) : Type 0 where
+  -- labels keep their numbers
   pub seen : (l : ℕ) (t : List ℕ) → slice_get g.seen l ≡ Some t → slice_get g2.seen l ≡ Some t
+  -- the nodes that are new
   pub came : Lists (is_new_node g g2) e.came
+  -- the nodes that are no more
   pub gone : Lists (is_new_node g2 g) e.gone
+  -- the nodes with another label
   pub relabelled : Lists (is_relabelled g g2) e.relabelled
+  -- the edges that are no more
   pub lost : ListsPairs (is_new_edge g2 g) e.lost
+  -- the edges that are new
   pub added : ListsPairs (is_new_edge g g2) e.added
+  -- each target is live afterwards
   pub nodes : (n : ℕ) → IsTrue (has e.targets n) → IsTrue (is_live g2 n)
+  -- each new node is a target
   pub target_came : (n : ℕ) → IsTrue (has e.came n) → IsTrue (has e.targets n)
+  -- each node with another label is one
   pub target_relabelled : (n : ℕ) → IsTrue (has e.relabelled n) → IsTrue (has e.targets n)
+  -- the end of each new edge is one
   pub target_added : (u v : ℕ) → IsTrue (has_pair e.added u v) → IsTrue (has e.targets v)
+  -- the end of each lost edge is one, if it is still live
   pub target_lost : (u v : ℕ) → IsTrue (has_pair e.lost u v) → IsTrue (is_live g2 v) → IsTrue (has e.targets v)
 
 -- the graph without these edges

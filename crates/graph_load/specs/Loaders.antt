@@ -29,8 +29,11 @@ number_known r t = lookup (is_key_of r.terms r.predicates t) r.known
 
 -- where the parts of a triple stand
 pub record ArePlaces (r : Loader) (t : Triple) (p : Places) : Type 0 where
+  -- the place and the number of the subject
   pub subject : IsFoundAs r.terms t.subject p.subject
+  -- the place of the predicate
   pub predicate : p.predicate ≡ position (bytes_eq t.predicate) r.predicates
+  -- the place and the number of the object
   pub object : IsFoundAs r.terms t.object p.object
 
 -- the node of the term has this number
@@ -50,8 +53,11 @@ pub record IsSoundLoader (r : Loader) : Type 0 where
 
 -- nothing is taken out of a table, and no triple is known that wasn't
 pub record Grows (old new : Loader) : Type 0 where
+  -- new terms stand behind the others
   pub terms : Begins old.terms new.terms
+  -- new predicates stand behind the others
   pub predicates : Begins old.predicates new.predicates
+  -- the known triples are the same
   pub known : new.known ≡ old.known
 
 -- a step leads from the one loader to the other

@@ -71,15 +71,22 @@ LoadsFrom limits (l ∷ ls) p e =
 
 -- the text loads to this
 pub record Loads (limits : Limits) (text : List ℕ) (o : Outcome) : Type 0 where
+  -- how the load ends
   pub ending : Ending
+  -- the lines of the text lead to it
   pub ends : LoadsFrom limits (cut text) at_start ending
+  -- the outcome tells it
   pub is : o ≡ outcome_of ending
 
 -- the text loads to this graph, and its terms and triples get these numbers
 pub record LoadsNamed (limits : Limits) (text : List ℕ) (g : Graph) (n : Names) : Type 0 where
+  -- what the load has in the end
   pub state : LoadState
+  -- the lines of the text lead to it
   pub ends : LoadsFrom limits (cut text) at_start (loaded state)
+  -- the graph is the one that was loaded
   pub graph : g ≡ state.graph
+  -- terms and triples have the numbers that the load gave them
   pub names : AreSameNames n (names_of state)
 
 -- one of the lines spells the triple

@@ -41,9 +41,13 @@ is_seen seen t = list_any (bytes_eq t) seen
 -- What holds of the empty graph, and of each that changes lead to: the labels seen are distinct, each live node's label is one
 -- of them, and edges lead from live nodes to live nodes.
 pub record IsGraph (g : Graph) : Type 0 where
+  -- no label stands twice
   pub distinct : IsDistinct bytes_eq g.seen
+  -- each node's label is among the labels
   pub labelled : (n : ℕ) (t : List ℕ) → label_of g n ≡ Some t → IsTrue (is_seen g.seen t)
+  -- each edge begins at a live node
   pub from : (u v : ℕ) → IsTrue (has_edge g u v) → IsTrue (is_live g u)
+  -- each edge ends at a live node
   pub onto : (u v : ℕ) → IsTrue (has_edge g u v) → IsTrue (is_live g v)
 
 -- a graph is stored as its three parts

@@ -17,5 +17,7 @@ is_this n (Some m) = nat_eq n m
 
 -- the list has just the numbers that pass, each once
 pub record Lists (p : ℕ → Bool) (xs : List ℕ) : Type 0 where
+  -- no number stands twice
   pub once : IsDistinct nat_eq xs
+  -- a number is listed exactly if it passes
   pub members : (n : ℕ) → has xs n ≡ p n

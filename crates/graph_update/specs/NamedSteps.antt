@@ -5,7 +5,9 @@ use Rattle.change_spec.specs.Named.{is_dropped}
 
 -- the steps from a place on are still to be read, and the node stays where there is one
 pub record AreLeft (c : List Step) (n from : ℕ) : Type 0 where
+  -- the place is no later than the end
   pub within : from ≤ length c
+  -- before the end, no step takes the node away
   pub stays : from < length c → is_dropped c n ≡ false
 
 -- where no step is said to drop a node, none does

@@ -47,11 +47,19 @@ IsShownPast number shown more = (number < shown → more ≡ shown) × (shown �
 -- graph's labels, the graph is sound, so many numbers will be allocated, where no step may drop a node none does, and the labels to come
 -- are ahead where they are said to be.
 pub record IsPending (c : List Step) (g : Graph) (table : LabelTable) (created : ℕ) (drops ahead : Bool) : Type 0 where
+  -- the change is accepted within some limits, and changes the graph
   pub new : IsNew c g
+  -- no step behind names a node that was taken away
   pub last : DropsLast c
+  -- the table has the labels of the graph
   pub seen : table.texts ≡ g.seen
+  -- the graph before is a graph
   pub sound : IsGraph g
+  -- so many numbers are allocated once the change is made
   pub created_is : created ≡ length (after c g).allocated
+  -- no more than 2^30 numbers
   pub few : created ≤ 2 ^ 30
+  -- whether some step takes a node away
   pub stays : TellsDrops c drops
+  -- what is looked up ahead is as in the graph after
   pub ahead_are : ahead ≡ true → AreAhead c g table

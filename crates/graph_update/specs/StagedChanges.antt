@@ -49,9 +49,13 @@ plan_of (relabel u t) = Relabel u t
 
 -- the change is staged in the graph
 pub record IsStaged (c : List Step) (held : ReservedGraph) (plans : List Plan) : Type 0 where
+  -- a plan for each step that isn't idle, in their order
   pub plans_are : plans ≡ map plan_of (effective c held.graph)
+  -- capacity is reserved for the labels that come
   pub labels : held.reserved.labels ≡ needed_labels (effective c held.graph)
+  -- capacity is reserved for the edges that come
   pub pairs : held.reserved.pairs ≡ needed_pairs (effective c held.graph)
+  -- capacity is reserved for the nodes that get another label
   pub relabels : held.reserved.relabels ≡ needed_relabels (effective c held.graph)
 
 -- the step can be made within some limits, and isn't idle

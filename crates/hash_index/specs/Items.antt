@@ -2,7 +2,9 @@
 use Rattle.std.specs.Prelude.{◌≡◌, ℕ, ◌+◌, ◌<◌, ◌≤◌, List, [], ◌∷◌, ◌++◌, slice_index_or, Option, None, Some, IfSome}
 
 pub record Items (X : Type 0) : Type 0 where
+  -- the hash of each item's key, in the order of the items
   pub hashes : List ℕ
+  -- the items, in the order in which they came
   pub items : List X
 
 abbrev pub no_items : {X : Type 0} → Items X
@@ -22,6 +24,9 @@ count_to (Some n) = n + 1
 
 -- the greatest of the numbers below n that have the hash, and none where none has
 pub record IsNewest (hashes : List ℕ) (hash n : ℕ) (found : Option ℕ) : Type 0 where
+  -- what is found is below n
   pub below : count_to found ≤ n
+  -- it has the hash
   pub has : IfSome found (λ i. hash_at hashes i ≡ hash)
+  -- no later one below n has it
   pub covers : (j : ℕ) → j < n → hash_at hashes j ≡ hash → j < count_to found

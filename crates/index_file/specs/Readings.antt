@@ -13,15 +13,22 @@ use Rattle.index_file.specs.Statements.{Statement}
 
 -- a view as its lines give it: the ranks of the first nodes
 pub record RankedView : Type 0 where
+  -- the index, or the level, of which it is a view
   pub via : Via
+  -- the rank of each live node's block, in the order of the numbers of nodes
   pub ranks : List ℕ
 
 -- what was read, and what is due
 pub record Reading : Type 0 where
+  -- what the next line may be
   pub due : Due
+  -- the highest level
   pub k : ℕ
+  -- the label of each number of a node that was read; none for a gone node
   pub allocated : List (Option (List ℕ))
+  -- the edges that were read
   pub pairs : List (ℕ × ℕ)
+  -- the views that were read
   pub views : List RankedView
 
 abbrev pub nothing_read : Reading

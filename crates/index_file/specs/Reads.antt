@@ -14,9 +14,13 @@ TakesAll (l ∷ ls) r last = (s : Statement) × (mid : Reading) × Says l.text s
 
 -- the text is an index file that holds this
 pub record Spelled (text : List ℕ) (file : SavedFile) : Type 0 where
+  -- what is read in the end
   pub last : Reading
+  -- each line is taken in turn
   pub takes : TakesAll (cut text) nothing_read last
+  -- nothing more is due
   pub complete : IsTrue (is_complete last)
+  -- the file is what was read
   pub holds : file ≡ file_of last
 
 pub data Outcome : Type 0 where
@@ -53,8 +57,11 @@ pub record IsTaken (limits : Limits) (line : List ℕ) (old new : Reading) : Typ
 
 -- the line passes a limit
 pub record IsOver (limits : Limits) (line : List ℕ) (old : Reading) : Type 0 where
+  -- what the line says
   pub statement : Statement
+  -- the line spells it
   pub says : Says line statement
+  -- it asks for more than a limit allows
   pub over : IsTrue (exceeds limits statement old)
 
 -- whatever the line says, it passes no limit, and can't stand here

@@ -104,9 +104,15 @@ pub record CanBeSaved (g : Graph) (kept : KeptIndexes) : Type 0 where
 -- The text is the index file of the graph and of the indexes that are kept: it holds these and nothing else, it is read as that, unless
 -- a line of it passes a limit, and each view fits.
 pub record IsIndexFile (g : Graph) (kept : KeptIndexes) (text : List ℕ) : Type 0 where
+  -- what the text holds
   pub file : SavedFile
+  -- the text spells it
   pub spelled : Spelled text file
+  -- and nothing else
   pub only : (other : SavedFile) → Spelled text other → other ≡ file
+  -- it is read wherever no line passes a limit
   pub reads : (limits : Limits) → IsWithin limits text → Reads limits text (outcome.holds file)
+  -- it is the graph with its kept indexes
   pub holds : IsFileOf g kept file
+  -- each view fits the graph
   pub fits : (j : ℕ) → j < length file.views → FitsView file j

@@ -15,7 +15,9 @@ lone_block g n = if is_live g n then Some (own_block g n) else None
 
 -- Each live node has a block of its own, with its label.
 pub record IsLone (g : Graph) (p : Partition) : Type 0 where
+  -- each live node is alone in its block
   pub block : (n : ℕ) → at p.block_of n ≡ lone_block g n
+  -- the block has the node's label
   pub labelled : (n l : ℕ) → label_number g n ≡ Some l → at p.labels (own_block g n) ≡ Some l
 
 -- The same of the nodes below n, in lists.

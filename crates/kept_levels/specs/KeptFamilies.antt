@@ -54,8 +54,11 @@ IsSpare f (Some d) = IsEmptyOver f d
 
 -- the keys of the family are as its supports say, a draft that is staged can be settled, and a spare one is empty
 pub record IsKeptFamily (sides : Sides) (f : List KeyedQuotient) (staged emptied : Option (List KeyedChanges)) : Type 0 where
+  -- the keys are as the supports say
   pub supported : HaveSupportedKeys sides f
+  -- a staged draft can be settled
   pub draft : IsKeptDraft sides f staged
+  -- a spare draft is empty
   pub spare : IsSpare f emptied
 
 -- the views of a family, one for each level

@@ -7,6 +7,7 @@ IsAbsent keys key = (i : ℕ) → slice_get keys i ≡ Some key → ⊥
 
 -- no two numbers have one key
 pub record AreDistinct (keys : List (List ℕ)) : Type 0 where
+  -- numbers of equal keys are equal
   pub apart : (i j : ℕ) (key : List ℕ) → slice_get keys i ≡ Some key → slice_get keys j ≡ Some key → i ≡ j
 
 -- the number is that of the key among the old keys, which stay; or the key was absent, and is put behind them

@@ -16,9 +16,15 @@ keys_of arena spans = map (key_in arena) spans
 
 -- what every table keeps: distinct keys, with their hashes
 pub record IsKeyTable (arena : List ℕ) (index : Items KeyRange) : Type 0 where
+  -- each key has a hash
   pub even : length index.hashes ≡ length index.items
+  -- the arena has fewer than 2^32 numbers
   pub short : length arena < 2 ^ 32
+  -- no span ends before it begins
   pub order : (i : ℕ) → i < length index.items → (span_at index.items i).from ≤ (span_at index.items i).to
+  -- each span ends within the arena
   pub within : (i : ℕ) → i < length index.items → (span_at index.items i).to ≤ length arena
+  -- each key has the hash of its numbers
   pub hashed : (i : ℕ) → i < length index.items → hash_at index.hashes i ≡ hash_of (key_in arena (span_at index.items i))
+  -- equal keys have one number
   pub apart : (i j : ℕ) → i < length index.items → j < length index.items → key_in arena (span_at index.items i) ≡ key_in arena (span_at index.items j) → i ≡ j

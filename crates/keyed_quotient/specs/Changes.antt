@@ -42,9 +42,13 @@ shown_key q d b = option_or (lookup (nat_eq b) d.keys) (key_at q.keys b)
 -- The draft was begun over this base, as `IsOver` says. Its further blocks are no blocks of the base, and as shown exactly the
 -- blocks have keys, no two of them the same. This holds over a base for as long as its blocks and its keys stay.
 pub record IsKeyedOver (q : KeyedQuotient) (d : KeyedChanges) : Type 0 where
+  -- the draft without its keys is over the base
   pub over : IsOver q.quotient.blocks.block_of q.quotient.blocks.labels d.drafted
+  -- no block gets a key twice
   pub once : IsDistinct nat_eq (keys_of d.keys)
+  -- only blocks that had no key get one
   pub further : (b : ℕ) (key : List ℕ) → lookup (nat_eq b) d.keys ≡ Some key → key_at q.keys b ≡ None
+  -- as shown, exactly the blocks have keys, each its own
   pub keyed : AreKeyed (labels_as_shown q d) (shown_key q d)
 
 -- the key is in the table
@@ -53,8 +57,11 @@ IsKnown known key = (k : ℕ) × (slice_get known k ≡ Some key)
 
 -- the base has capacity reserved for what the draft shows
 pub record HasReservedKeys (q : KeyedQuotient) (d : KeyedChanges) : Type 0 where
+  -- capacity for the blocks, the supports and the moves
   pub quotient : HasRoomFor q.quotient d.drafted
+  -- each new key is known to the base
   pub known : (i b : ℕ) (key : List ℕ) → slice_get d.keys i ≡ Some (b, key) → IsKnown q.reserved.known key
+  -- each new block is below the span
   pub span : (i b : ℕ) (key : List ℕ) → slice_get d.keys i ≡ Some (b, key) → b < q.reserved.span
 
 -- the key of a block once the draft is settled: as it is shown, and none where the block has no members
@@ -63,7 +70,9 @@ settled_key q d b = cond (has_member (blocks_as_shown q d) b) (shown_key q d b) 
 
 -- the base has become what the draft showed, without blocks that have no members
 pub record IsSettled (q : KeyedQuotient) (d : KeyedChanges) (new : KeyedQuotient) : Type 0 where
+  -- blocks, labels and supports are as shown
   pub view : view_of new.quotient ≡ settled_view q.quotient d.drafted
+  -- keys are as shown
   pub keys : (b : ℕ) → key_at new.keys b ≡ settled_key q d b
 
 -- each block has a member
@@ -72,7 +81,9 @@ AreInhabited labels block = (b : ℕ) → IsSome (at labels b) → IsTrue (has_m
 
 -- a block without members has no support in any pair
 pub record AreUnsupported (block : List (Option ℕ)) (support : ℕ → ℕ → ℕ) : Type 0 where
+  -- nothing leads from it
   pub from : (b c : ℕ) → has_member block b ≡ false → support b c ≡ 0
+  -- nothing leads to it
   pub onto : (b c : ℕ) → has_member block b ≡ false → support c b ≡ 0
 
 -- the number has this key, and all others have the keys that they had

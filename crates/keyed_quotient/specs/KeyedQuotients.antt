@@ -48,5 +48,7 @@ HasKey level b key = key_at level.keys b ≡ Some key
 
 -- exactly the blocks have keys, and no two blocks have one key
 pub record AreKeyed (labels : List (Option ℕ)) (key : ℕ → Option (List ℕ)) : Type 0 where
+  -- a number has a key exactly if it is a block
   pub exactly : (b : ℕ) → is_some (key b) ≡ is_some (at labels b)
+  -- blocks with equal keys are one
   pub apart : (b c : ℕ) (numbers : List ℕ) → key b ≡ Some numbers → key c ≡ Some numbers → b ≡ c

@@ -65,7 +65,9 @@ abbrev pub without_reserved_relabel : Reservation → List ℕ → Reservation
 without_reserved_relabel r t = record r { relabels = without_text r.relabels t }
 
 pub record ReservedGraph : Type 0 where
+  -- nodes, labels and edges
   pub graph : Graph
+  -- for how many additions there is capacity
   pub reserved : Reservation
 
 -- the number is that of a live node, or one that a node with a reserved label will have

@@ -34,6 +34,7 @@ first_number key = option_and_then (λ numbers. slice_get numbers 0) key
 
 -- the key of a block at the lowest level is its label
 pub record AreLabelled (labels : List (Option ℕ)) (key : ℕ → Option (List ℕ)) : Type 0 where
+  -- the key has the label as its only number
   pub is : (b l : ℕ) → at labels b ≡ Some l → key b ≡ Some (l ∷ [])
 
 -- The level shows a partition of the nodes of the graph, in which blocks have the labels of their members, and supports

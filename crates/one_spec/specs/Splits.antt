@@ -9,6 +9,7 @@ use Rattle.one_spec.specs.SplitRoundSteps.{IsRefinement, SameBut}
 
 -- children of what passes pass
 pub record IsClosed (s : Shape) (inside : ℕ → Bool) : Type 0 where
+  -- a child of a node inside is inside
   pub children : (p n : ℕ) → IsTrue (inside p) → IsParent s p n → IsTrue (inside n)
 
 -- After some rounds: the partition is stable except perhaps at the nodes that are examined next, lies within the first

@@ -20,11 +20,17 @@ use Rattle.quotient_draft.specs.Drafts.{Drafted, shown_blocks, shown_labels, sho
 -- The draft shows a partition of the graph after the change, with the numbers of edges; it is stable, and blocks have
 -- the labels of their members, except perhaps at the targets. Each target is given once, and no block was made.
 pub record CanSplit (a : Pending) (base : Quotient) (d : Drafted) (targets new_blocks : List ℕ) : Type 0 where
+  -- the draft is over the base
   pub over : IsOver base.blocks.block_of base.blocks.labels d
+  -- no target stands twice
   pub once : IsDistinct nat_eq targets
+  -- as shown the partition is stable, except perhaps at the targets
   pub stable : StableBut (shape_of (graph_after a)) (shown_blocks base d) (has targets)
+  -- as shown blocks have their members' labels, except perhaps at the targets
   pub block_labels : BlocksHaveLabelsBut (has targets) (shown_blocks base d) (at (shown_labels base d)) (label_number (graph_after a))
+  -- no block was made yet
   pub none : new_blocks ≡ []
+  -- as shown supports are numbers of edges in the graph after
   pub supports : AreEdgeCounts (graph_after a) (shown_blocks base d) (shown_support base d)
 
 -- passes one of two tests

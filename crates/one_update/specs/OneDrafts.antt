@@ -40,9 +40,13 @@ pub record ShowsChange (g : Graph) (c : List Step) (q : Quotient) (d : Drafted) 
 
 -- the draft shows the next partition, with the labels of members and the numbers of edges
 pub record IsDrafted (g : Graph) (c : List Step) (q : Quotient) (d : Drafted) : Type 0 where
+  -- the draft is over the base
   pub over : IsOver q.blocks.block_of q.blocks.labels d
+  -- the partition as shown is the next one of the 1-index
   pub step : OneStep g q.blocks.block_of c (after c g) (shown_blocks q d)
+  -- as shown blocks have their members' labels
   pub block_labels : BlocksHaveLabels (shown_blocks q d) (at (shown_labels q d)) (label_number (after c g))
+  -- as shown supports are numbers of edges in the graph after
   pub supports : AreEdgeCounts (after c g) (shown_blocks q d) (shown_support q d)
 
 -- targets of the change, each once, and all nodes at which the two graphs differ in the end

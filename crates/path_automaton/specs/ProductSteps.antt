@@ -33,6 +33,9 @@ pub data Reached (at : ℕ → Option State) (size : ℕ) (label_at : ℕ → Op
 
 -- the nodes at which a word can end, rising
 pub record AreEnds (at : ℕ → Option State) (size : ℕ) (label_at : ℕ → Option ℕ) (edge : ℕ → ℕ → Bool) (First : ℕ → Type 0) (start : ℕ) (nodes : List ℕ) : Type 0 where
+  -- from the least number to the greatest, with no repeats
   pub rising : IsStrictlyIncreasing nodes
+  -- each listed node is reached in an accepting state
   pub sound : (v : ℕ) → IsTrue (has nodes v) → (s : ℕ) × (at s ≡ Some End) × (v < size) × Reached at size label_at edge First start s v
+  -- each node that is so reached is listed
   pub complete : (s v : ℕ) → at s ≡ Some End → v < size → Reached at size label_at edge First start s v → IsTrue (has nodes v)

@@ -13,6 +13,9 @@ IsAnswer s e v = (word : Word) × Matches e word × (u : ℕ) × Leads s u word 
 
 -- the nodes are the answers, each once, in the order of their numbers
 pub record AreAnswers (s : Shape) (e : Expr) (nodes : List ℕ) : Type 0 where
+  -- from the least number to the greatest, with no repeats
   pub rising : IsStrictlyIncreasing nodes
+  -- each listed node answers
   pub sound : (v : ℕ) → IsTrue (has nodes v) → IsAnswer s e v
+  -- each answer is listed
   pub complete : (v : ℕ) → IsAnswer s e v → IsTrue (has nodes v)

@@ -66,7 +66,9 @@ Calls (Some (Ask command)) text j k reply = AsksSession j.session command text j
 
 -- What a call does, by its number, the two numbers and the text that come with it; and it says the code of its reply.
 pub record IsCalled (call a b : ℕ) (text : List ℕ) (h i : Held) (code : ℕ) : Type 0 where
+  -- the call has its effect on the session, and this reply
   pub calls : Calls (request_at call a b) text (kept_by h) (kept_by i) i.reply
+  -- the code is that of the reply
   pub code_is : code ≡ i.reply.code
 
 -- A walk was checked, if a session is open.
@@ -76,8 +78,11 @@ ChecksSession (Some s) text v walk reply = Checks text v walk s reply
 
 -- What the call does that checks a walk; all but the reply stays.
 pub record IsChecked (v : ℕ) (walk text : List ℕ) (h i : Held) (code : ℕ) : Type 0 where
+  -- the reply says whether the walk shows why the node answers
   pub checks : ChecksSession h.session text v walk i.reply
+  -- what is held stays
   pub kept : kept_by i ≡ kept_by h
+  -- the code is that of the reply
   pub code_is : code ≡ i.reply.code
 
 -- the nodes and edges of the graph, and the number that its next node gets; 0, where no session is open
@@ -113,8 +118,11 @@ pub record IsReported (which : ℕ) (h i : Held) (number : ℕ) : Type 0 where
 
 -- nothing is held: no session is open
 pub record IsEmpty (h : Held) : Type 0 where
+  -- no session is open
   pub session : h.session ≡ None
+  -- no group is begun
   pub group : h.group ≡ None
+  -- the reply has the code 0
   pub reply : h.reply ≡ said 0
 
 -- what was found last: none of it, where no session is open
@@ -138,5 +146,7 @@ pub record IsCopied {X : Type 0} (list : List X) (first : ℕ) (old new : List X
 
 -- What was found last is copied so, and all stays.
 pub record CopiesFound (found : Option SessionOf → List ℕ) (first : ℕ) (h i : Held) (old new : List ℕ) (count : ℕ) : Type 0 where
+  -- the part from `first` on stands in the slice, as far as it fits
   pub copied : IsCopied (found h.session) first old new count
+  -- what is held stays
   pub same : i ≡ h

@@ -55,14 +55,23 @@ pub record Checks (asked : List ℕ) (v : ℕ) (walk : List ℕ) (s : SessionOf)
 
 -- The blocks of an index were listed.
 pub record Lists (via : Via) (s t : SessionOf) (reply : Reply) : Type 0 where
+  -- what the session answers
   pub answer : Result ⊤ QueryError
+  -- the reply says it, with the length of the text
   pub reply_is : reply ≡ of_list answer (length t.text)
+  -- the text lists the blocks of the index
   pub listed : OnOk answer (ListsIndex (graph_of s) (kept_in (engine_in s)) via t.text)
+  -- it is refused exactly if the index isn't kept
   pub no_index : (answer ≡ Err (Refused NoIndex)) ↔ (is_kept (kept_in (engine_in s)) via ≡ false)
+  -- the engine stays, but for views that were computed
   pub keeps : KeepsAllButViews (engine_in s) (engine_in t)
+  -- the numbers of terms and triples stay
   pub names : t.names ≡ s.names
+  -- an error leaves the text
   pub err : OnErr answer (t.text ≡ s.text)
+  -- the nodes found last stay
   pub nodes : t.nodes ≡ s.nodes
+  -- the walk found last stays
   pub walk : t.walk ≡ s.walk
 
 -- The sizes were listed.

@@ -25,9 +25,13 @@ pub record OpensGraph (g : Graph) (kept : Indexes) (e : EngineOf AnyIndex) : Typ
 
 -- the same with the graph of the triples in a text, and with the numbers that the load gave its terms and triples
 pub record OpensText (text : List ℕ) (kept : Indexes) (e : EngineOf AnyIndex) (n : Names) : Type 0 where
+  -- the graph of the text
   pub graph : Graph
+  -- the text loads to it
   pub loads : Loads program_limits text (loaded graph)
+  -- its terms and triples have these numbers
   pub named : LoadsNamed program_limits text graph n
+  -- the engine is open on it
   pub opens : OpensGraph graph kept e
 
 -- the line that an error names is the one at which the text is refused, and for that reason

@@ -43,11 +43,16 @@ names_of s = s.names.names
 
 -- What holds of a session's engine between two calls.
 pub record IsReady (e : EngineOf AnyIndex) : Type 0 where
+  -- the engine is open
   pub is_open : IsOpened e
+  -- each index fits the graph
   pub sound : IsSound (by_meaning meaning_of e)
 
 -- what was found last stays
 pub record KeepsFound (s t : SessionOf) : Type 0 where
+  -- the nodes found last
   pub nodes : t.nodes ≡ s.nodes
+  -- the walk found last
   pub walk : t.walk ≡ s.walk
+  -- the text made last
   pub text : t.text ≡ s.text

@@ -26,7 +26,9 @@ pub record IsWhole (g : Graph) (q : Quotient) : Type 0 where
 
 -- the index graph is one of this index: exactly the nodes have a block, and it fits the graph
 pub record IsIndex (via : Via) (g : Graph) (q : Quotient) : Type 0 where
+  -- blocks, labels and supports are those of the index
   pub fits : FitsVia via g (view_of q)
+  -- exactly the nodes have a block
   pub nodes : IsPartition (shape_of g) q.blocks.block_of
 
 -- the index graph of the graph itself, or that of an index

@@ -19,6 +19,9 @@ places_from n (b ∷ bs) = if b then n ∷ places_from (n + 1) bs else places_fr
 
 -- m is the least member that is at least n
 pub record IsNext (members : List ℕ) (n m : ℕ) : Type 0 where
+  -- m is a member
   pub member : has members m ≡ true
+  -- it is no less than n
   pub from : n ≤ m
+  -- nothing between is a member
   pub first : (k : ℕ) → n ≤ k → k < m → has members k ≡ false

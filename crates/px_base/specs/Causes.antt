@@ -7,7 +7,9 @@ MayHaveRisen before now = (before ≤ now) × ((before < now) ⊎ (before ≡ 2 
 
 -- the count says why a call failed
 pub record HasCause {T E : Type 0} (before now : ℕ) (result : Result T E) : Type 0 where
+  -- where the call succeeded, the count is as before
   pub kept : OnOk result (now ≡ before)
+  -- where it failed, the count may have risen
   pub failed : OnErr result (MayHaveRisen before now)
 
 -- one more, up to the last value of a u64

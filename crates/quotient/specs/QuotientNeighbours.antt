@@ -46,6 +46,7 @@ edges_below edges block n x y = set.len (set.retain edges (λ e. nat_lt e.0 n &&
 
 -- whatever the blocks: as many edges of the list lead from one to another as of the set
 pub record AreListed (edges : Edges) (list : List (ℕ × ℕ)) : Type 0 where
+  -- for each pair of blocks the numbers agree
   pub same : (block : List (Option ℕ)) (x y : ℕ) → support list block x y ≡ edges_between edges block x y
 
 -- the same of those edges of the set that begin before a node
@@ -54,6 +55,7 @@ pub record AreListedBelow (edges : Edges) (n : ℕ) (list : List (ℕ × ℕ)) :
 
 -- whatever the blocks: at most 2^30 edges of the list lead from one to another
 pub record AreFew (list : List (ℕ × ℕ)) : Type 0 where
+  -- for each pair of blocks
   pub most : (block : List (Option ℕ)) (x y : ℕ) → support list block x y ≤ 2 ^ 30
 
 -- each pair in the table has edges

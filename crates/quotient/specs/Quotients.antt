@@ -21,8 +21,11 @@ pub record ReservedPairs : Type 0 where
   pub parents : List ℕ
 
 pub record Quotient : Type 0 where
+  -- the partition, with a label for each block
   pub blocks : Partition
+  -- the support of each pair that has some
   pub supports : SupportTable
+  -- for how many more pairs there is capacity
   pub reserved : ReservedPairs
 
 abbrev pub no_reserved_pairs : ReservedPairs

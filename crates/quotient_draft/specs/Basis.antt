@@ -15,12 +15,19 @@ AreLeastFree labels (e ∷ es) = IsLeastFree labels e.0 × AreLeastFree (put lab
 -- base would give them, the blocks that it names are blocks as shown, and it knows from which blocks nodes were taken, and
 -- how many from each. This holds over a base for as long as its blocks stay.
 pub record IsOver (block labels : List (Option ℕ)) (d : Drafted) : Type 0 where
+  -- each new block took the least free number
   pub least : AreLeastFree labels d.added
+  -- with new blocks there are 2^31 blocks at most
   pub few : 0 < length d.added → count_by is_some (with_added labels d.added) ≤ 2 ^ 31
+  -- nodes move to blocks
   pub moved : (n b : ℕ) → lookup (nat_eq n) d.moves ≡ Some (Some b) → IsSome (at (with_added labels d.added) b)
+  -- nodes that move have numbers below 2^31
   pub numbers : (n b : ℕ) → lookup (nat_eq n) d.moves ≡ Some (Some b) → n < 2 ^ 31
+  -- drafted supports are those of pairs of blocks
   pub ends : (p : ℕ × ℕ) (n : ℕ) → lookup (is_pair p) d.supports ≡ Some n → IsSome (at (with_added labels d.added) p.0) × IsSome (at (with_added labels d.added) p.1)
+  -- the blocks that nodes leave are listed
   pub left : (n b : ℕ) → at block n ≡ Some b → IsSome (lookup (nat_eq n) d.moves) → has d.left b ≡ true
+  -- and how many leave each
   pub taken : AreTaken block d.moves d.taken
 
 -- each pair that is written is one of blocks

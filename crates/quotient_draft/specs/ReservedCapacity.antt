@@ -13,9 +13,15 @@ onto_count pairs b = count_by (λ p. nat_eq b p.1) pairs
 
 -- the base has capacity reserved for what the draft shows
 pub record HasRoomFor (q : Quotient) (d : Drafted) : Type 0 where
+  -- for the numbers of nodes that move
   pub nodes : (n b : ℕ) → lookup (nat_eq n) d.moves ≡ Some (Some b) → n < length q.blocks.block_of + q.blocks.reserved.nodes
+  -- for the new blocks
   pub blocks : length d.added ≤ q.blocks.reserved.blocks
+  -- for their numbers
   pub span : (i : ℕ) (e : ℕ × ℕ) → slice_get d.added i ≡ Some e → e.0 < q.reserved.span
+  -- for the drafted pairs
   pub pairs : length d.supports ≤ q.reserved.pairs
+  -- for the children of each block
   pub children : (a : ℕ) → from_count (keys_of d.supports) a ≤ slice_index q.reserved.children a
+  -- for the parents of each block
   pub parents : (b : ℕ) → onto_count (keys_of d.supports) b ≤ slice_index q.reserved.parents b

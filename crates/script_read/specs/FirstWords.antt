@@ -28,7 +28,9 @@ expression_text line = without_blanks (behind_word (behind_word line))
 
 -- the first word of the line, empty if there is none, and what follows it
 pub record IsSplit (line word rest : List ℕ) : Type 0 where
+  -- an empty word means that the line has none
   pub none : word ≡ [] → words line ≡ []
+  -- else the line's words are this one and those of the rest
   pub some : word ≢ [] → words line ≡ word ∷ words rest
 
 -- there is no word, or it begins with # (35)

@@ -7,7 +7,9 @@ use Rattle.walk_spec.specs.Ways.{Takes}
 
 -- the listed numbers are below the size, and are the members of the set
 pub record AreStates (size : ℕ) (members list : List ℕ) : Type 0 where
+  -- each listed state is below the size
   pub below : (s : ℕ) → IsTrue (has list s) → s < size
+  -- a state is a member exactly if it is listed
   pub agree : (s : ℕ) → has members s ≡ has list s
 
 -- further states of the kind are listed behind those that were

@@ -43,5 +43,7 @@ with_number same x n (e ∷ es) = if same e.0 then ((e.0, n) ∷ es) else (e ∷
 
 -- the names, and the triples whose numbers can be noted with no more memory
 pub record ReservedNames : Type 0 where
+  -- the numbers of terms and triples
   pub names : Names
+  -- the triples whose numbers need no more memory
   pub reserved : List Triple

@@ -19,10 +19,15 @@ EndIn (u ∷ c ∷ nodes) v = EndIn (c ∷ nodes) v
 -- The numbers are the nodes of a walk that ends in v, and its word, the list of their labels, matches the expression. A
 -- number that is no node has no label, so no walk has it. A node may come more than once.
 pub record Shows (s : Shape) (e : Expr) (v : ℕ) (nodes : List ℕ) : Type 0 where
+  -- the word that is read
   pub word : Word
+  -- the nodes have its labels, one after the other
   pub labels : map s.label nodes ≡ map Some word
+  -- each node but the first is a child of the one before
   pub linked : AreLinked s nodes
+  -- the last node is v
   pub end : EndIn nodes v
+  -- the word matches the expression
   pub matches : Matches e word
 
 -- At the first place where they differ, the first list has the smaller number. Lists of one length are meant.
@@ -37,5 +42,7 @@ Before nodes others = (length nodes < length others) ⊎ ((length nodes ≡ leng
 
 -- the walk shows why v answers, and comes before each other one that does; at most one walk is the least
 pub record IsLeast (s : Shape) (e : Expr) (v : ℕ) (nodes : List ℕ) : Type 0 where
+  -- the walk shows why v answers
   pub shows : Shows s e v nodes
+  -- each other such walk comes later in the order
   pub least : (others : List ℕ) → Shows s e v others → (others ≡ nodes) ⊎ Before nodes others
