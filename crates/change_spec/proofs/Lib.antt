@@ -3,7 +3,7 @@ pub mod StepDiffers
 pub mod EndsDiffer
 pub mod MoreTargets
 pub mod SingleSteps
-pub mod Fronts
+pub mod Prefixes
 pub mod KeptEdges
 pub mod StepPlaces
 pub mod NamedNodes

@@ -4,7 +4,7 @@
 //! Laws in `proofs/`:
 //! - `StepGraphs`, `StepPlaces`, `Accepted`: accepted steps leave a graph; what they name is there; numbers that are gone
 //!   stay so; higher limits accept them too.
-//! - `Fronts`, `SingleSteps`: the first steps of a list, and lists of one step.
+//! - `Prefixes`, `SingleSteps`: the first steps of a list, and lists of one step.
 //! - `StepDiffers`, `MoreTargets`: a change alters a graph at its targets alone; more targets reach no less.
 //! - `LostEdges`, `RoundBounds`: how many edges go, and what a round over nodes that stay may read.
 //! - `ShownNeighbours`, `ShownCounts`, `NamedNodes`: the neighbours that are shown are those of the graph after; how many

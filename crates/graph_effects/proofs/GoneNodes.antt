@@ -21,7 +21,7 @@ use Rattle.change_spec.proofs.StepPlaces.{live_given, given_made, gone_stays}
 use Rattle.graph_steps.specs.declared.changes.Step.{Step as Asked}
 use Rattle.graph_steps.specs.NewChanges.{IsNew}
 use Rattle.graph_steps.specs.StepLists.{step_of, steps_of}
-use Rattle.graph_steps.proofs.FrontSteps.{more_at}
+use Rattle.graph_steps.proofs.PrefixSteps.{more_at}
 use Rattle.graph_effects.specs.Effects.{is_new_node}
 use Rattle.graph_effects.specs.StepEffects.{node_if, comes_below, gone_by, gone_with}
 

@@ -16,5 +16,5 @@ pub(crate) fn step_at(change: &Change, i: usize) -> &Step
     requires { i < length change.now }
     ensures { drop i change.now ≡ step_of result.now ∷ drop (i + 1) change.now }
 {
-    change.whole().step(i)
+    change.as_prefix().step(i)
 }

@@ -16,10 +16,10 @@ takes_within c i n h = elim (cases_lt i (length c)) [
   | inr above ↦ absurd (true≢false (sym h ∙ take_past c i n above))
 ]
 
-takes_front : (c : List Step) (s : Step) (i n : ℕ) → i < length c → takes_at (c ++ s ∷ []) i n ≡ takes_at c i n
-takes_front [] s i n h = absurd (omega (arith, h))
-takes_front (x ∷ xs) s zero n h = refl
-takes_front (x ∷ xs) s (suc i) n h = takes_front xs s i n (omega (arith, h))
+takes_prefix : (c : List Step) (s : Step) (i n : ℕ) → i < length c → takes_at (c ++ s ∷ []) i n ≡ takes_at c i n
+takes_prefix [] s i n h = absurd (omega (arith, h))
+takes_prefix (x ∷ xs) s zero n h = refl
+takes_prefix (x ∷ xs) s (suc i) n h = takes_prefix xs s i n (omega (arith, h))
 
 takes_last : (c : List Step) (s : Step) (n : ℕ) → takes_at (c ++ s ∷ []) (length c) n ≡ takes_away s n
 takes_last [] s n = refl
@@ -36,7 +36,7 @@ taken_off : (c : List Step) (s : Step) (n p : ℕ) → IsTaken n c p → takes_a
 taken_off c s n p is off = record {
   before = λ k b. untaken_with c s k n off (is.before k b);
   there = elim is.there [
-    | inl on ↦ inl (takes_front c s p n (takes_within c p n on) ∙ on)
+    | inl on ↦ inl (takes_prefix c s p n (takes_within c p n on) ∙ on)
     | inr e ↦ inr e
   ];
 }
@@ -47,13 +47,13 @@ taken_on c s n p few is on = elim is.there [
       let within = takes_within c p n here in
       let same : p ≡ min p (length c) = omega (arith, within) in
       subst (IsTaken n (c ++ s ∷ [])) same (record {
-        before = λ k b. takes_front c s k n (omega (arith, b, within)) ∙ is.before k b;
-        there = inl (takes_front c s p n within ∙ here);
+        before = λ k b. takes_prefix c s k n (omega (arith, b, within)) ∙ is.before k b;
+        there = inl (takes_prefix c s p n within ∙ here);
       }))
   | inr e ↦ (
       let same : length c ≡ min p (length c) = omega (arith, e, few) in
       subst (IsTaken n (c ++ s ∷ [])) same (record {
-        before = λ k b. takes_front c s k n b ∙ is.before k (omega (arith, b, e, few));
+        before = λ k b. takes_prefix c s k n b ∙ is.before k (omega (arith, b, e, few));
         there = inl (takes_last c s n ∙ on);
       }))
 ]

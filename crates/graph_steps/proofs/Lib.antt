@@ -1,8 +1,8 @@
-pub mod FrontSteps
+pub mod PrefixSteps
 pub mod StepLinks
 pub mod NamedParts
 pub mod NodePlaces
-pub mod GivenLabels
+pub mod StepLabels
 pub mod GrownCounts
 pub mod Listed
 pub mod NodeEdges

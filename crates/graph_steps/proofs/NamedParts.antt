@@ -34,8 +34,8 @@ mapped_take (suc k) (s ∷ ss) = ap (λ r. step_of s ∷ r) (mapped_take k ss)
 pub counted : (ss : List Asked) (c : List Step) → steps_of ss ≡ c → length ss ≡ length c
 counted ss c e = sym (length-map ss step_of) ∙ ap length e
 
-pub front_taken : (ss : List Asked) (c : List Step) (k : ℕ) → steps_of ss ≡ c → steps_of (take k ss) ≡ take k c
-front_taken ss c k e = mapped_take k ss ∙ ap (take k) e
+pub prefix_taken : (ss : List Asked) (c : List Step) (k : ℕ) → steps_of ss ≡ c → steps_of (take k ss) ≡ take k c
+prefix_taken ss c k e = mapped_take k ss ∙ ap (take k) e
 
 -- the step at a place, and those behind it
 pub step_there : (ss : List Asked) (i : ℕ) (s : Asked) → i < length ss → s ≡ get_or ss i s → drop i (steps_of ss) ≡ step_of s ∷ drop (i + 1) (steps_of ss)
@@ -84,8 +84,8 @@ got_within [] (suc i) s e = cc
 got_within (x ∷ xs) zero s e = omega arith
 got_within (x ∷ xs) (suc i) s e = (let r = got_within xs i s e in omega (arith, r))
 
-pub next_front : (c : List Step) (n k from p place : ℕ) → k ≤ length c → from ≤ k → place ≡ min p k → IsNextNamed n c from p → IsNextNamed n (take k c) from place
-next_front c n k from p place within below is next =
+pub next_prefix : (c : List Step) (n k from p place : ℕ) → k ≤ length c → from ≤ k → place ≡ min p k → IsNextNamed n c from p → IsNextNamed n (take k c) from place
+next_prefix c n k from p place within below is next =
     let len = length-take-le k c within in
     let low = next.ordered in
     record {

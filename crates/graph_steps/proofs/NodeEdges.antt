@@ -19,7 +19,7 @@ use Rattle.graph_steps.specs.declared.changes.Step.{Step as Asked}
 use Rattle.graph_steps.specs.declared.changes.Step.TheVariants.{Node, Link, Unlink, Drop, Relabel}
 use Rattle.graph_steps.specs.StepLists.{step_of, steps_of}
 use Rattle.graph_steps.specs.Counted.{touching}
-use Rattle.graph_steps.proofs.FrontSteps.{more_at}
+use Rattle.graph_steps.proofs.PrefixSteps.{more_at}
 use Rattle.graph_steps.proofs.GrownCounts.{edges_same}
 use Rattle.graph_steps.proofs.NamedParts.{live_stays}
 use Rattle.graph_steps.specs.Degrees.{stays_at, staying, one_for, lost_by, gained_by, cut_by}
@@ -138,7 +138,7 @@ module _ (g : Graph) (u w : ℕ) (d d2 : ℕ → Bool) (apart : u ≢ w) (free :
 pub left_next : (ss : List Asked) (i : ℕ) (s : Asked) (g : Graph) (u count : ℕ) → i < length ss → s ≡ get_or ss i s → CanMakeAll (steps_of ss) g → IsTrue (is_live (after (steps_of ss) g) u)
     → (CanMake (step_of s) (after (steps_of (take i ss)) g)) → CanMakeAll (steps_of (take i ss)) g → is_dropped (steps_of (take i ss)) u ≡ false → is_dropped (steps_of (take (i + 1) ss)) u ≡ false
     → count ≡ staying g u (is_dropped (steps_of (take i ss))) → count - lost_by g u (step_of s) ≡ staying g u (is_dropped (steps_of (take (i + 1) ss)))
-left_next ss i s g u count h e can live one front free free2 is = split s (λ n. gone_more ss i s n h e) one
+left_next ss i s g u count h e can live one prefix free free2 is = split s (λ n. gone_more ss i s n h e) one
   where
     d : ℕ → Bool
     d = is_dropped (steps_of (take i ss))
@@ -161,7 +161,7 @@ left_next ss i s g u count h e can live one front free free2 is = split s (λ n.
     split (Relabel a t) m c = plain (relabel a t) (λ n. refl) m
     split (Drop w) m c =
         let apart : u ≢ w = λ same. true≢false (sym (m u ∙ ap (λ b. d u || b) (here w same) ∙ or-true (d u)) ∙ free2) in
-        let off : d w ≡ false = live_not_gone (take i ss) g w front c in
+        let off : d w ≡ false = live_not_gone (take i ss) g w prefix c in
         let law = one_gone g u w d d2 apart free off m in
         omega (arith, law, is)
 
@@ -221,13 +221,13 @@ gone_within (x ∷ xs) zero s h e n t = ap (λ b. b || is_dropped (steps_of xs) 
 gone_within (x ∷ xs) (suc i) s h e n t = ap (λ b. takes_away (step_of x) n || b) (gone_within xs i s (omega (arith, h)) e n t) ∙ or-true (takes_away (step_of x) n)
 
 -- what isn't gone in the end isn't gone before
-pub front_not_gone : (ss : List Asked) (i n : ℕ) → is_dropped (steps_of ss) n ≡ false → is_dropped (steps_of (take i ss)) n ≡ false
-front_not_gone [] zero n h = refl
-front_not_gone [] (suc i) n h = refl
-front_not_gone (x ∷ xs) zero n h = refl
-front_not_gone (x ∷ xs) (suc i) n h =
+pub prefix_not_gone : (ss : List Asked) (i n : ℕ) → is_dropped (steps_of ss) n ≡ false → is_dropped (steps_of (take i ss)) n ≡ false
+prefix_not_gone [] zero n h = refl
+prefix_not_gone [] (suc i) n h = refl
+prefix_not_gone (x ∷ xs) zero n h = refl
+prefix_not_gone (x ∷ xs) (suc i) n h =
     let both = or_parts (takes_away (step_of x) n) (is_dropped (steps_of xs) n) h in
-    rw both.0 (front_not_gone xs i n both.1)
+    rw both.0 (prefix_not_gone xs i n both.1)
 
 -- each step adds one edge at most
 edges_grow : (s : Step) (g : Graph) → set.len (made s g).edges ≤ set.len g.edges + 1

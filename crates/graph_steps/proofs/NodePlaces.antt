@@ -8,10 +8,10 @@ use Rattle.change_spec.proofs.StepPlaces.{given_set}
 use Rattle.graph_steps.specs.NodePlaces.{place_if, places_from, node_places}
 
 -- the place of the first step, and those behind it
-abbrev front_places : Step → ℕ → List ℕ → List ℕ
-front_places s i rest = place_if s i ++ rest
+abbrev prefix_places : Step → ℕ → List ℕ → List ℕ
+prefix_places s i rest = place_if s i ++ rest
 
-first_place : (s : Step) (i : ℕ) (ss : List Step) → places_from i (s ∷ ss) ≡ front_places s i (places_from (suc i) ss)
+first_place : (s : Step) (i : ℕ) (ss : List Step) → places_from i (s ∷ ss) ≡ prefix_places s i (places_from (suc i) ss)
 first_place (node t) i ss = refl
 first_place (link u v) i ss = refl
 first_place (unlink u v) i ss = refl
@@ -23,7 +23,7 @@ pub places_more : (i : ℕ) (c : List Step) (s : Step) → places_from i (c ++ s
 places_more i [] s = first_place s i [] ∙ append-nil (place_if s i) ∙ ap (place_if s) (omega arith)
 places_more i (x ∷ xs) s =
     first_place x i (xs ++ s ∷ [])
-    ∙ ap (front_places x i) (places_more (suc i) xs s ∙ ap (λ k. places_from (suc i) xs ++ place_if s k) (omega arith))
+    ∙ ap (prefix_places x i) (places_more (suc i) xs s ∙ ap (λ k. places_from (suc i) xs ++ place_if s k) (omega arith))
     ∙ sym (append_assoc (place_if x i) (places_from (suc i) xs) (place_if s (i + suc (length xs))))
     ∙ ap (λ ps. ps ++ place_if s (i + suc (length xs))) (sym (first_place x i xs))
 
@@ -102,17 +102,17 @@ place_within c j p e = (place_adds c empty_graph j p e).within
 
 -- ---- the first steps
 
-get_front : (xs ys : List ℕ) (j p : ℕ) → j < length xs → slice_get (xs ++ ys) j ≡ Some p → slice_get xs j ≡ Some p
-get_front [] ys j p h e = absurd (omega (arith, h))
-get_front (x ∷ xs) ys zero p h e = e
-get_front (x ∷ xs) ys (suc j) p h e = get_front xs ys j p (omega (arith, h)) e
+get_prefix : (xs ys : List ℕ) (j p : ℕ) → j < length xs → slice_get (xs ++ ys) j ≡ Some p → slice_get xs j ≡ Some p
+get_prefix [] ys j p h e = absurd (omega (arith, h))
+get_prefix (x ∷ xs) ys zero p h e = e
+get_prefix (x ∷ xs) ys (suc j) p h e = get_prefix xs ys j p (omega (arith, h)) e
 
 places_joined : (i : ℕ) (a b : List Step) → (rest : List ℕ) × (places_from i (a ++ b) ≡ places_from i a ++ rest)
 places_joined i [] b = (places_from i b, refl)
 places_joined i (x ∷ xs) b =
     let rest = places_joined (suc i) xs b in (
       rest.0,
-      first_place x i (xs ++ b) ∙ ap (front_places x i) rest.1 ∙ sym (append_assoc (place_if x i) (places_from (suc i) xs) rest.0)
+      first_place x i (xs ++ b) ∙ ap (prefix_places x i) rest.1 ∙ sym (append_assoc (place_if x i) (places_from (suc i) xs) rest.0)
           ∙ ap (λ ps. ps ++ rest.0) (sym (first_place x i xs)),
     )
 
@@ -120,10 +120,10 @@ places_taken : (c : List Step) (k : ℕ) → (rest : List ℕ) × (node_places c
 places_taken c k = (let j = places_joined 0 (take k c) (drop k c) in (j.0, ap node_places (sym (take-append-drop k c)) ∙ j.1))
 
 -- a step that adds a node is at one place, whatever steps follow
-pub place_front : (c : List Step) (k j p : ℕ) → j < length (node_places (take k c)) → slice_get (node_places c) j ≡ Some p → slice_get (node_places (take k c)) j ≡ Some p
-place_front c k j p h e =
+pub place_prefix : (c : List Step) (k j p : ℕ) → j < length (node_places (take k c)) → slice_get (node_places c) j ≡ Some p → slice_get (node_places (take k c)) j ≡ Some p
+place_prefix c k j p h e =
     let t = places_taken c k in
-    get_front (node_places (take k c)) t.0 j p h (ap (λ xs. slice_get xs j) (sym t.1) ∙ e)
+    get_prefix (node_places (take k c)) t.0 j p h (ap (λ xs. slice_get xs j) (sym t.1) ∙ e)
 
 pub fewer_places : (c : List Step) (k : ℕ) → length (node_places (take k c)) ≤ length (node_places c)
 fewer_places c k =

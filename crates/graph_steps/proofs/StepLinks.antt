@@ -8,8 +8,8 @@ use Rattle.std.proofs.lemmas.Bool.Decides.{eqb_tells}
 use Rattle.change_spec.specs.Steps.{Step, node, link, unlink, drop as drop_step, relabel}
 use Rattle.change_spec.specs.Named.{names, is_named}
 use Rattle.graph_steps.specs.declared.changes.Step.{Step as Asked}
-use Rattle.graph_steps.specs.declared.chains.Links.{Links}
-use Rattle.graph_steps.specs.declared.chains.Ends.{Ends}
+use Rattle.graph_steps.specs.declared.links.Links.{Links}
+use Rattle.graph_steps.specs.declared.links.Ends.{Ends}
 use Rattle.graph_steps.specs.StepLists.{step_of, steps_of}
 use Rattle.graph_steps.specs.NamedSteps.{IsNextNamed}
 use Rattle.graph_steps.proofs.NamedParts.{got_within}
@@ -29,10 +29,10 @@ past_end c i n h = elim (cases_Bool (names_at c i n)) [
   | inr off ↦ off
 ]
 
-named_front : (c : List Step) (s : Step) (i n : ℕ) → i < length c → names_at (c ++ s ∷ []) i n ≡ names_at c i n
-named_front [] s i n h = absurd (omega (arith, h))
-named_front (x ∷ xs) s zero n h = refl
-named_front (x ∷ xs) s (suc i) n h = named_front xs s i n (omega (arith, h))
+named_prefix : (c : List Step) (s : Step) (i n : ℕ) → i < length c → names_at (c ++ s ∷ []) i n ≡ names_at c i n
+named_prefix [] s i n h = absurd (omega (arith, h))
+named_prefix (x ∷ xs) s zero n h = refl
+named_prefix (x ∷ xs) s (suc i) n h = named_prefix xs s i n (omega (arith, h))
 
 named_last : (c : List Step) (s : Step) (n : ℕ) → names_at (c ++ s ∷ []) (length c) n ≡ names n s
 named_last [] s n = refl
@@ -40,11 +40,11 @@ named_last (x ∷ xs) s n = named_last xs s n
 
 -- a step that is there stays, and one that names the node where none did is the last
 named_stays : (c : List Step) (s : Step) (i n : ℕ) → names_at c i n ≡ true → names_at (c ++ s ∷ []) i n ≡ true
-named_stays c s i n h = named_front c s i n (named_within c i n h) ∙ h
+named_stays c s i n h = named_prefix c s i n (named_within c i n h) ∙ h
 
 named_more : (c : List Step) (s : Step) (i n : ℕ) → names_at (c ++ s ∷ []) i n ≡ true → ((i < length c) × (names_at c i n ≡ true)) ⊎ ((i ≡ length c) × (names n s ≡ true))
 named_more c s i n h = elim (cases_lt i (length c)) [
-  | inl below ↦ inl (below, sym (named_front c s i n below) ∙ h)
+  | inl below ↦ inl (below, sym (named_prefix c s i n below) ∙ h)
   | inr above ↦ (
       let within = named_within (c ++ s ∷ []) i n h in
       let len = length-append c (s ∷ []) in
@@ -53,7 +53,7 @@ named_more c s i n h = elim (cases_lt i (length c)) [
 ]
 
 unnamed_more : (c : List Step) (s : Step) (i n : ℕ) → i < length c → names_at c i n ≡ false → names_at (c ++ s ∷ []) i n ≡ false
-unnamed_more c s i n below h = named_front c s i n below ∙ h
+unnamed_more c s i n below h = named_prefix c s i n below ∙ h
 
 -- a step that doesn't name the node changes nothing for it
 unnamed_with : (c : List Step) (s : Step) (i n : ℕ) → names n s ≡ false → names_at c i n ≡ false → names_at (c ++ s ∷ []) i n ≡ false
@@ -299,11 +299,11 @@ ends_more ss s old new some few are notes =
 abbrev pub unlinked : Links
 unlinked = record { first = nowhere; second = nowhere }
 
-link_front : (c : List Step) (s : Step) (ls : List Links) (i n : ℕ) → length ls ≡ length c → i < length c → link_at (c ++ s ∷ []) (ls ++ unlinked ∷ []) i n ≡ link_at c ls i n
-link_front [] s ls i n count h = absurd (omega (arith, h))
-link_front (x ∷ xs) s [] i n count h = absurd (omega (arith, count))
-link_front (x ∷ xs) s (l ∷ ls) zero n count h = refl
-link_front (x ∷ xs) s (l ∷ ls) (suc i) n count h = link_front xs s ls i n (omega (arith, count)) (omega (arith, h))
+link_prefix : (c : List Step) (s : Step) (ls : List Links) (i n : ℕ) → length ls ≡ length c → i < length c → link_at (c ++ s ∷ []) (ls ++ unlinked ∷ []) i n ≡ link_at c ls i n
+link_prefix [] s ls i n count h = absurd (omega (arith, h))
+link_prefix (x ∷ xs) s [] i n count h = absurd (omega (arith, count))
+link_prefix (x ∷ xs) s (l ∷ ls) zero n count h = refl
+link_prefix (x ∷ xs) s (l ∷ ls) (suc i) n count h = link_prefix xs s ls i n (omega (arith, count)) (omega (arith, h))
 
 link_last : (c : List Step) (s : Step) (ls : List Links) (n : ℕ) → length ls ≡ length c → link_at (c ++ s ∷ []) (ls ++ unlinked ∷ []) (length c) n ≡ nowhere
 link_last [] s [] n count = by_test (is_first n s)
@@ -347,8 +347,8 @@ links_joined c s ends old new few are links same leads =
     record {
       count = omega (arith, count, more, longer);
       next = λ i n h. elim (named_more c s i n h) [
-        | inl front ↦ subst (IsLater n (c ++ s ∷ []) (i + 1)) (sym (link_front c s new i n count front.0 ∙ leads i n front.1)) (
-            link_more c s i n (last_at ends n) (link_at c old i n) few front.1 (are.last n) (links.next i n front.1))
+        | inl prefix ↦ subst (IsLater n (c ++ s ∷ []) (i + 1)) (sym (link_prefix c s new i n count prefix.0 ∙ leads i n prefix.1)) (
+            link_more c s i n (last_at ends n) (link_at c old i n) few prefix.1 (are.last n) (links.next i n prefix.1))
         | inr end ↦ (
             let place = end.0 in
             subst (IsLater n (c ++ s ∷ []) (i + 1)) (sym (ap (λ k. link_at (c ++ s ∷ []) (new ++ unlinked ∷ []) k n) place ∙ link_last c s new n count)) (record {

@@ -7,22 +7,22 @@ use Rattle.graph_spec.specs.declared.refusal.Refusal.{Refusal}
 use Rattle.graph_spec.specs.declared.refusal.Refusal.TheVariants.{Limit}
 use Rattle.graph_spec.specs.Graphs.{Graph, IsGraph}
 use Rattle.change_spec.specs.Steps.{made, after, and_then, apply_step, apply_all, apply, is_new, is_idle, MOST_STEPS}
-use Rattle.change_spec.proofs.Fronts.{new_more, apply_joined}
+use Rattle.change_spec.proofs.Prefixes.{new_more, apply_joined}
 use Rattle.graph_steps.specs.declared.changes.Step.{Step as Asked}
 use Rattle.graph_steps.specs.declared.changes.Verdict.TheVariants.{New, Same}
 use Rattle.graph_steps.specs.StepLists.{step_of, steps_of}
 use Rattle.graph_steps.specs.Verdicts.{Judges}
 use Rattle.graph_steps.proofs.IdleSteps.{unaltered}
-use Rattle.graph_steps.proofs.FrontSteps.{more_at, after_at}
+use Rattle.graph_steps.proofs.PrefixSteps.{more_at, after_at}
 
 -- the next step is accepted
 pub applied_next : (ss : List Asked) (i : ℕ) (s : Asked) (g : Graph) (limits : Limits) → i < length ss → s ≡ get_or ss i s
     → apply_all (steps_of (take i ss)) g limits ≡ Ok (after (steps_of (take i ss)) g)
     → apply_step (step_of s) (after (steps_of (take i ss)) g) limits ≡ Ok (made (step_of s) (after (steps_of (take i ss)) g))
     → apply_all (steps_of (take (i + 1) ss)) g limits ≡ Ok (after (steps_of (take (i + 1) ss)) g)
-applied_next ss i s g limits h e front one =
+applied_next ss i s g limits h e prefix one =
     ap (λ c. apply_all c g limits) (more_at ss i s h e)
-    ∙ apply_joined (steps_of (take i ss)) (step_of s ∷ []) g (after (steps_of (take i ss)) g) limits front
+    ∙ apply_joined (steps_of (take i ss)) (step_of s ∷ []) g (after (steps_of (take i ss)) g) limits prefix
     ∙ ap (λ r. and_then r (λ k. Ok k)) one
     ∙ ap Ok (sym (after_at ss i s g h e))
 
@@ -42,9 +42,9 @@ split_at (x ∷ xs) (suc i) s h e = ap (λ c. step_of x ∷ c) (split_at xs i s 
 pub refused_at : (ss : List Asked) (i : ℕ) (s : Asked) (g : Graph) (limits : Limits) (r : Refusal) → i < length ss → s ≡ get_or ss i s
     → apply_all (steps_of (take i ss)) g limits ≡ Ok (after (steps_of (take i ss)) g)
     → apply_step (step_of s) (after (steps_of (take i ss)) g) limits ≡ Err r → apply_all (steps_of ss) g limits ≡ Err r
-refused_at ss i s g limits r h e front one =
+refused_at ss i s g limits r h e prefix one =
     ap (λ c. apply_all c g limits) (split_at ss i s h e)
-    ∙ apply_joined (steps_of (take i ss)) (step_of s ∷ steps_of (behind ss i)) g (after (steps_of (take i ss)) g) limits front
+    ∙ apply_joined (steps_of (take i ss)) (step_of s ∷ steps_of (behind ss i)) g (after (steps_of (take i ss)) g) limits prefix
     ∙ ap (λ q. and_then q (λ k. apply_all (steps_of (behind ss i)) k limits)) one
 
 pub new_next : (ss : List Asked) (i : ℕ) (s : Asked) (g : Graph) (new alters : Bool) → i < length ss → s ≡ get_or ss i s → new ≡ is_new (steps_of (take i ss)) g

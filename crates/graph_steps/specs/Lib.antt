@@ -2,7 +2,7 @@ pub mod StepLists
 pub mod NodePlaces
 pub mod StepLinks
 pub mod NamedSteps
-pub mod GivenLabels
+pub mod StepLabels
 pub mod NewChanges
 pub mod Counted
 pub mod Degrees

@@ -4,8 +4,8 @@ use Rattle.std.specs.Map.{lookup}
 use Rattle.change_spec.specs.Steps.{Step, node, link, unlink, drop, relabel}
 use Rattle.change_spec.specs.Named.{names, takes_away}
 use Rattle.graph_steps.specs.NodePlaces.{node_places}
-use Rattle.graph_steps.specs.declared.chains.Links.{Links}
-use Rattle.graph_steps.specs.declared.chains.Ends.{Ends}
+use Rattle.graph_steps.specs.declared.links.Links.{Links}
+use Rattle.graph_steps.specs.declared.links.Ends.{Ends}
 
 -- the step at the place names the node
 abbrev pub names_at : List Step → ℕ → ℕ → Bool

@@ -7,8 +7,8 @@ ghost use Rattle.graph_steps.specs.NamedSteps.{IsNextNamed, DropsLast};
 ghost use Rattle.graph_steps.specs.NodePlaces.{place_if, node_places};
 ghost use Rattle.smallvec.specs.SmallVec.{HasRoomFor};
 
-use crate::chains::{NodeEnds, StepLinks, drops_before, drops_from, next_place, note, unlinked};
-use crate::parts::Front;
+use crate::links::{NodeEnds, StepLinks, drops_before, drops_from, next_place, note, unlinked};
+use crate::prefix::Prefix;
 use indexmap::IndexMap;
 use px_base::{Memory, NodeId, Text};
 use smallvec::SmallVec;
@@ -212,18 +212,18 @@ impl Change {
     }
 
     /// The first steps, those before a place. O(1), no memory.
-    pub fn front(&self, past: usize) -> Front<'_>
+    pub fn prefix(&self, past: usize) -> Prefix<'_>
         requires { past ≤ length self.now }
         ensures { result ≡ take past self.now }
     {
-        Front::of(self, past)
+        Prefix::of(self, past)
     }
 
     /// All steps. O(1), no memory.
-    pub fn whole(&self) -> Front<'_>
+    pub fn as_prefix(&self) -> Prefix<'_>
         ensures { result ≡ self.now }
     {
-        Front::of(self, self.steps.len())
+        Prefix::of(self, self.steps.len())
     }
 }
 

@@ -10,8 +10,8 @@ ghost use Rattle.graph_steps.specs.Counted.{touching};
 ghost use Rattle.graph_steps.specs.Degrees.{stays_at, staying, one_for, lost_by, counted_behind};
 
 use crate::changes::Step;
-use crate::fronts::{edge_before, has_edge};
-use crate::parts::Front;
+use crate::reads::{edge_before, has_edge};
+use crate::prefix::Prefix;
 use label_graph::Graph;
 use px_base::{NodeId, Steps};
 use std::marker::Brand;
@@ -89,26 +89,26 @@ fn count_left(graph: &Graph, step: &Step, u: NodeId, count: usize) -> usize
 }
 
 // Whether the edge is at the node, and none of the steps takes one of its ends away.
-fn is_counted(front: &[Step], u: NodeId, a: NodeId, b: NodeId) -> bool
-    ensures { result ≡ stays_at u (is_dropped (steps_of front.now)) (a, b) }
+fn is_counted(prefix: &[Step], u: NodeId, a: NodeId, b: NodeId) -> bool
+    ensures { result ≡ stays_at u (is_dropped (steps_of prefix.now)) (a, b) }
 {
-    (a == u || b == u) && (!is_dropped(front, a) && !is_dropped(front, b))
+    (a == u || b == u) && (!is_dropped(prefix, a) && !is_dropped(prefix, b))
 }
 
 // Whether an edge that a link names comes, and is counted.
 fn is_gained(
     graph: &Graph,
-    front: &Front<'_>,
-    whole: &[Step],
+    prefix: &Prefix<'_>,
+    all_steps: &[Step],
     u: NodeId,
     a: NodeId,
     b: NodeId,
 ) -> bool
-    requires within { (n : ℕ) → is_dropped (steps_of whole.now) n ≡ false → is_dropped front.now n ≡ false }
-    ensures { result ≡ (stays_at u (is_dropped (steps_of whole.now)) (a, b) && not (edge_in (after front.now graph.now.graph) a b)) }
+    requires within { (n : ℕ) → is_dropped (steps_of all_steps.now) n ≡ false → is_dropped prefix.now n ≡ false }
+    ensures { result ≡ (stays_at u (is_dropped (steps_of all_steps.now)) (a, b) && not (edge_in (after prefix.now graph.now.graph) a b)) }
 {
-    if is_counted(whole, u, a, b) {
-        return !has_edge(graph, front, a, b);
+    if is_counted(all_steps, u, a, b) {
+        return !has_edge(graph, prefix, a, b);
     }
     false
 }
@@ -116,32 +116,32 @@ fn is_gained(
 // The count once the next step is made, of the edges whose ends all steps leave.
 fn count_on(
     graph: &Graph,
-    front: &Front<'_>,
+    prefix: &Prefix<'_>,
     step: &Step,
-    whole: &[Step],
+    all_steps: &[Step],
     u: NodeId,
     count: usize,
 ) -> usize
     requires few { count < 2 ^ 63 }
-    requires within { (n : ℕ) → is_dropped (steps_of whole.now) n ≡ false → is_dropped front.now n ≡ false }
-    ensures { result ≡ counted_behind (after front.now graph.now.graph) u (is_dropped (steps_of whole.now)) (step_of step.now) count }
+    requires within { (n : ℕ) → is_dropped (steps_of all_steps.now) n ≡ false → is_dropped prefix.now n ≡ false }
+    ensures { result ≡ counted_behind (after prefix.now graph.now.graph) u (is_dropped (steps_of all_steps.now)) (step_of step.now) count }
 {
     match step {
-        Step::Link(a, b) => count + usize::from(is_gained(graph, front, whole, u, *a, *b)),
-        Step::Unlink(a, b) => count.saturating_sub(usize::from(is_counted(whole, u, *a, *b))),
+        Step::Link(a, b) => count + usize::from(is_gained(graph, prefix, all_steps, u, *a, *b)),
+        Step::Unlink(a, b) => count.saturating_sub(usize::from(is_counted(all_steps, u, *a, *b))),
         _ => count,
     }
 }
 
 // The edges of the graph as it is at a node, without those that go with other nodes.
-fn edges_left(graph: &Graph, front: &[Step], u: NodeId) -> usize
-    requires can { CanMakeAll (steps_of front.now) graph.now.graph }
-    requires live { IsTrue (is_live (after (steps_of front.now) graph.now.graph) u) }
-    ensures { result ≡ staying graph.now.graph u (is_dropped (steps_of front.now)) }
+fn edges_left(graph: &Graph, prefix: &[Step], u: NodeId) -> usize
+    requires can { CanMakeAll (steps_of prefix.now) graph.now.graph }
+    requires live { IsTrue (is_live (after (steps_of prefix.now) graph.now.graph) u) }
+    ensures { result ≡ staying graph.now.graph u (is_dropped (steps_of prefix.now)) }
 {
     let mut count = edges_before(graph, u);
-    for i in 0..front.len() {
-        count = count_left(graph, &front[i], u, count);
+    for i in 0..prefix.len() {
+        count = count_left(graph, &prefix[i], u, count);
     }
     count
 }
@@ -149,18 +149,18 @@ fn edges_left(graph: &Graph, front: &[Step], u: NodeId) -> usize
 /// How many edges begin or end at a node that is live once the first steps are made; a loop is one. Its edges are not gone
 /// through one by one: O(s) for s steps, O(s) more for each of them that names the node, and what it takes to look up its
 /// loop, two edges for each node that is taken away, and each edge at it that is linked. No memory.
-pub fn edges_at(graph: &Graph, front: &Front<'_>, u: NodeId) -> usize
-    requires few { length front.now ≤ 1024 }
-    requires can { CanMakeAll front.now graph.now.graph }
-    requires live { IsTrue (is_live (after front.now graph.now.graph) u) }
-    ensures { result ≡ touching (after front.now graph.now.graph) u }
+pub fn edges_at(graph: &Graph, prefix: &Prefix<'_>, u: NodeId) -> usize
+    requires few { length prefix.now ≤ 1024 }
+    requires can { CanMakeAll prefix.now graph.now.graph }
+    requires live { IsTrue (is_live (after prefix.now graph.now.graph) u) }
+    ensures { result ≡ touching (after prefix.now graph.now.graph) u }
 {
-    edges_behind(graph, front, front.steps(), u)
+    edges_behind(graph, prefix, prefix.steps(), u)
 }
 
 // The same, of these steps.
-fn edges_behind(graph: &Graph, front: &Front<'_>, steps: &[Step], u: NodeId) -> usize
-    requires same { steps_of steps.now ≡ front.now }
+fn edges_behind(graph: &Graph, prefix: &Prefix<'_>, steps: &[Step], u: NodeId) -> usize
+    requires same { steps_of steps.now ≡ prefix.now }
     requires few { length steps.now ≤ 1024 }
     requires can { CanMakeAll (steps_of steps.now) graph.now.graph }
     requires live { IsTrue (is_live (after (steps_of steps.now) graph.now.graph) u) }
@@ -170,7 +170,7 @@ fn edges_behind(graph: &Graph, front: &Front<'_>, steps: &[Step], u: NodeId) -> 
     let _edges = graph.edge_count();
     let mut count = edges_left(graph, steps, u);
     for i in 0..steps.len() {
-        count = count_on(graph, &front.front(i), &steps[i], steps, u, count);
+        count = count_on(graph, &prefix.prefix(i), &steps[i], steps, u, count);
     }
     count
 }

@@ -11,9 +11,9 @@ ghost use Rattle.graph_steps.specs.Verdicts.{Judges};
 use crate::changes::{Change, Step, Verdict};
 use crate::counting::{Counts, Exact, Taken, counts_of, exact_for};
 use crate::degrees::edges_at;
-use crate::fronts::{either, has_edge, is_live, is_seen};
-use crate::given::has_label;
-use crate::parts::Front;
+use crate::reads::{either, has_edge, is_live, is_seen};
+use crate::labels::has_label;
+use crate::prefix::Prefix;
 use label_graph::Graph;
 use px_base::{Limits, NodeId, Refusal, Text};
 
@@ -21,39 +21,39 @@ use px_base::{Limits, NodeId, Refusal, Text};
 const MOST_STEPS: usize = 1024;
 
 // Whether the label isn't one yet once the first steps are made.
-fn is_unseen(graph: &Graph, front: &Front<'_>, label: &Text) -> bool
-    ensures { result ≡ not (seen_in (after front.now graph.now.graph).seen label.now) }
+fn is_unseen(graph: &Graph, prefix: &Prefix<'_>, label: &Text) -> bool
+    ensures { result ≡ not (seen_in (after prefix.now graph.now.graph).seen label.now) }
 {
-    !is_seen(graph, front.steps(), label)
+    !is_seen(graph, prefix.steps(), label)
 }
 
 // Whether the label may be one more: where labels aren't counted, it is taken for one.
-fn is_more(graph: &Graph, front: &Front<'_>, label: &Text, exact: Exact) -> bool
-    ensures counted { exact.labels ≡ true → result ≡ not (seen_in (after front.now graph.now.graph).seen label.now) }
+fn is_more(graph: &Graph, prefix: &Prefix<'_>, label: &Text, exact: Exact) -> bool
+    ensures counted { exact.labels ≡ true → result ≡ not (seen_in (after prefix.now graph.now.graph).seen label.now) }
     ensures uncounted { exact.labels ≡ false → result ≡ true }
 {
     if exact.labels {
-        return is_unseen(graph, front, label);
+        return is_unseen(graph, prefix, label);
     }
     true
 }
 
 fn judge_node(
     graph: &Graph,
-    front: &Front<'_>,
+    prefix: &Prefix<'_>,
     label: &Text,
     limits: &Limits,
     exact: Exact,
     counts: Counts,
 ) -> Result<Taken, Refusal>
-    requires counts { AreCounts exact counts (after front.now graph.now.graph) }
+    requires counts { AreCounts exact counts (after prefix.now graph.now.graph) }
     requires labels { exact.labels ≡ false → counts.labels < limits.now.labels }
-    ensures { StepComes exact counts (node label.now) (after front.now graph.now.graph) limits.now result }
+    ensures { StepComes exact counts (node label.now) (after prefix.now graph.now.graph) limits.now result }
 {
     if counts.created >= limits.nodes {
         return Err(Refusal::Limit);
     }
-    let more = is_more(graph, front, label, exact);
+    let more = is_more(graph, prefix, label, exact);
     if more && counts.labels >= limits.labels {
         return Err(Refusal::Limit);
     }
@@ -69,22 +69,22 @@ fn judge_node(
 
 fn judge_link(
     graph: &Graph,
-    front: &Front<'_>,
+    prefix: &Prefix<'_>,
     u: NodeId,
     v: NodeId,
     limits: &Limits,
     exact: Exact,
     counts: Counts,
 ) -> Result<Taken, Refusal>
-    requires can { CanMakeAll front.now graph.now.graph }
-    requires counts { AreCounts exact counts (after front.now graph.now.graph) }
+    requires can { CanMakeAll prefix.now graph.now.graph }
+    requires counts { AreCounts exact counts (after prefix.now graph.now.graph) }
     requires edges { exact.edges ≡ false → counts.edges < limits.now.edges }
-    ensures { StepComes exact counts (link u v) (after front.now graph.now.graph) limits.now result }
+    ensures { StepComes exact counts (link u v) (after prefix.now graph.now.graph) limits.now result }
 {
-    if !is_live(graph, front, counts.created, u) || !is_live(graph, front, counts.created, v) {
+    if !is_live(graph, prefix, counts.created, u) || !is_live(graph, prefix, counts.created, v) {
         return Err(Refusal::NoNode);
     }
-    if has_edge(graph, front, u, v) {
+    if has_edge(graph, prefix, u, v) {
         return Ok(Taken {
             counts,
             alters: false,
@@ -105,20 +105,20 @@ fn judge_link(
 
 fn judge_unlink(
     graph: &Graph,
-    front: &Front<'_>,
+    prefix: &Prefix<'_>,
     u: NodeId,
     v: NodeId,
     exact: Exact,
     counts: Counts,
 ) -> Result<Taken, Refusal>
-    requires can { CanMakeAll front.now graph.now.graph }
-    requires counts { AreCounts exact counts (after front.now graph.now.graph) }
-    ensures { (limits : Limits) → StepComes exact counts (unlink u v) (after front.now graph.now.graph) limits result }
+    requires can { CanMakeAll prefix.now graph.now.graph }
+    requires counts { AreCounts exact counts (after prefix.now graph.now.graph) }
+    ensures { (limits : Limits) → StepComes exact counts (unlink u v) (after prefix.now graph.now.graph) limits result }
 {
-    if !is_live(graph, front, counts.created, u) || !is_live(graph, front, counts.created, v) {
+    if !is_live(graph, prefix, counts.created, u) || !is_live(graph, prefix, counts.created, v) {
         return Err(Refusal::NoNode);
     }
-    if !has_edge(graph, front, u, v) {
+    if !has_edge(graph, prefix, u, v) {
         return Err(Refusal::NoEdge);
     }
     Ok(Taken {
@@ -132,15 +132,15 @@ fn judge_unlink(
 }
 
 // How many edges go with a node, where they are counted.
-fn going(graph: &Graph, front: &Front<'_>, u: NodeId, exact: Exact) -> usize
-    requires few { length front.now ≤ 1024 }
-    requires can { CanMakeAll front.now graph.now.graph }
-    requires live { IsTrue (live_in (after front.now graph.now.graph) u) }
-    ensures counted { exact.edges ≡ true → result ≡ touching (after front.now graph.now.graph) u }
+fn going(graph: &Graph, prefix: &Prefix<'_>, u: NodeId, exact: Exact) -> usize
+    requires few { length prefix.now ≤ 1024 }
+    requires can { CanMakeAll prefix.now graph.now.graph }
+    requires live { IsTrue (live_in (after prefix.now graph.now.graph) u) }
+    ensures counted { exact.edges ≡ true → result ≡ touching (after prefix.now graph.now.graph) u }
     ensures uncounted { exact.edges ≡ false → result ≡ 0 }
 {
     if exact.edges {
-        return edges_at(graph, front, u);
+        return edges_at(graph, prefix, u);
     }
     0
 }
@@ -154,20 +154,20 @@ fn fewer(count: u32, gone: usize) -> u32
 
 fn judge_drop(
     graph: &Graph,
-    front: &Front<'_>,
+    prefix: &Prefix<'_>,
     u: NodeId,
     exact: Exact,
     counts: Counts,
 ) -> Result<Taken, Refusal>
-    requires few { length front.now ≤ 1024 }
-    requires can { CanMakeAll front.now graph.now.graph }
-    requires counts { AreCounts exact counts (after front.now graph.now.graph) }
-    ensures { (limits : Limits) → StepComes exact counts (drop u) (after front.now graph.now.graph) limits result }
+    requires few { length prefix.now ≤ 1024 }
+    requires can { CanMakeAll prefix.now graph.now.graph }
+    requires counts { AreCounts exact counts (after prefix.now graph.now.graph) }
+    ensures { (limits : Limits) → StepComes exact counts (drop u) (after prefix.now graph.now.graph) limits result }
 {
-    if !is_live(graph, front, counts.created, u) {
+    if !is_live(graph, prefix, counts.created, u) {
         return Err(Refusal::NoNode);
     }
-    let gone = going(graph, front, u, exact);
+    let gone = going(graph, prefix, u, exact);
     Ok(Taken {
         counts: Counts {
             created: counts.created,
@@ -180,22 +180,22 @@ fn judge_drop(
 
 fn judge_relabel(
     graph: &Graph,
-    front: &Front<'_>,
+    prefix: &Prefix<'_>,
     u: NodeId,
     label: &Text,
     limits: &Limits,
     exact: Exact,
     counts: Counts,
 ) -> Result<Taken, Refusal>
-    requires can { CanMakeAll front.now graph.now.graph }
-    requires counts { AreCounts exact counts (after front.now graph.now.graph) }
+    requires can { CanMakeAll prefix.now graph.now.graph }
+    requires counts { AreCounts exact counts (after prefix.now graph.now.graph) }
     requires labels { exact.labels ≡ false → counts.labels < limits.now.labels }
-    ensures { StepComes exact counts (relabel u label.now) (after front.now graph.now.graph) limits.now result }
+    ensures { StepComes exact counts (relabel u label.now) (after prefix.now graph.now.graph) limits.now result }
 {
-    if !is_live(graph, front, counts.created, u) {
+    if !is_live(graph, prefix, counts.created, u) {
         return Err(Refusal::NoNode);
     }
-    let more = is_more(graph, front, label, exact);
+    let more = is_more(graph, prefix, label, exact);
     if more && counts.labels >= limits.labels {
         return Err(Refusal::Limit);
     }
@@ -205,7 +205,7 @@ fn judge_relabel(
             edges: counts.edges,
             labels: counts.labels + u32::from(more),
         },
-        alters: !has_label(graph, front, u, label),
+        alters: !has_label(graph, prefix, u, label),
     })
 }
 
@@ -282,30 +282,30 @@ fn judge_at(
     requires labels { exact.labels ≡ false → counts.labels < limits.now.labels }
     ensures { ComesAt exact counts steps.now i graph.now.graph limits.now result }
 {
-    judge_step(graph, &change.front(i), &steps[i], limits, exact, counts)
+    judge_step(graph, &change.prefix(i), &steps[i], limits, exact, counts)
 }
 
 // What a step comes to, where those before it are accepted.
 fn judge_step(
     graph: &Graph,
-    front: &Front<'_>,
+    prefix: &Prefix<'_>,
     step: &Step,
     limits: &Limits,
     exact: Exact,
     counts: Counts,
 ) -> Result<Taken, Refusal>
-    requires few { length front.now ≤ 1024 }
-    requires can { CanMakeAll front.now graph.now.graph }
-    requires counts { AreCounts exact counts (after front.now graph.now.graph) }
+    requires few { length prefix.now ≤ 1024 }
+    requires can { CanMakeAll prefix.now graph.now.graph }
+    requires counts { AreCounts exact counts (after prefix.now graph.now.graph) }
     requires edges { exact.edges ≡ false → counts.edges < limits.now.edges }
     requires labels { exact.labels ≡ false → counts.labels < limits.now.labels }
-    ensures { StepComes exact counts (step_of step.now) (after front.now graph.now.graph) limits.now result }
+    ensures { StepComes exact counts (step_of step.now) (after prefix.now graph.now.graph) limits.now result }
 {
     match step {
-        Step::Node(label) => judge_node(graph, front, label, limits, exact, counts),
-        Step::Link(u, v) => judge_link(graph, front, *u, *v, limits, exact, counts),
-        Step::Unlink(u, v) => judge_unlink(graph, front, *u, *v, exact, counts),
-        Step::Drop(u) => judge_drop(graph, front, *u, exact, counts),
-        Step::Relabel(u, label) => judge_relabel(graph, front, *u, label, limits, exact, counts),
+        Step::Node(label) => judge_node(graph, prefix, label, limits, exact, counts),
+        Step::Link(u, v) => judge_link(graph, prefix, *u, *v, limits, exact, counts),
+        Step::Unlink(u, v) => judge_unlink(graph, prefix, *u, *v, exact, counts),
+        Step::Drop(u) => judge_drop(graph, prefix, *u, exact, counts),
+        Step::Relabel(u, label) => judge_relabel(graph, prefix, *u, label, limits, exact, counts),
     }
 }

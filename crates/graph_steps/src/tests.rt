@@ -1,6 +1,6 @@
 // Verdicts of lists of steps.
 use super::*;
-use crate::fronts::edge_before;
+use crate::reads::edge_before;
 use label_graph::Graph;
 use px_base::{Limits, NodeId, Refusal, Text};
 use std::alloc::Global;
@@ -175,8 +175,8 @@ fn steps_and_names(rt: HostRuntime) -> Result<(), Fail> {
     assert!(rt; !change.may_name(3) && is_dropped(change.steps(), 2));
     change.push(step_of(rt.alloc(), Relabel(3, b'b'))?)?;
     assert!(rt; change.may_name(3) && !is_dropped(change.steps(), 3));
-    let whole = change.whole();
-    assert!(rt; whole.is_dropped(2) && !whole.is_dropped(0));
+    let steps = change.as_prefix();
+    assert!(rt; steps.is_dropped(2) && !steps.is_dropped(0));
     assert!(rt; change.drops_before(1, 2) && !change.drops_before(0, 2));
     Ok(())
 }
@@ -232,7 +232,7 @@ fn check_next_before(rt: &impl Abort, change: &Change) {
     for (past, n, from, place) in NEXT_BEFORE {
         if *past <= change.steps().len() && *from <= *past {
             assert!(rt;
-                change.front(*past).next_naming(*from, *n) == *place,
+                change.prefix(*past).next_naming(*from, *n) == *place,
                 "{past} {n} {from}"
             );
         }
@@ -253,6 +253,6 @@ fn next_steps_that_name_a_node(rt: HostRuntime) -> Result<(), Fail> {
 fn next_step_of_one(rt: HostRuntime) -> Result<(), Fail> {
     let change = Change::one(rt.alloc(), Step::Link(3, 5))?;
     assert!(rt; change.next_naming(0, 5) == 0 && change.next_naming(1, 5) == 1);
-    assert!(rt; change.next_naming(0, 4) == 1 && change.whole().next_naming(0, 3) == 0);
+    assert!(rt; change.next_naming(0, 4) == 1 && change.as_prefix().next_naming(0, 3) == 0);
     Ok(())
 }

@@ -24,19 +24,19 @@ use Rattle.graph_steps.proofs.GrownCounts.{is_some-position}
 
 -- ---- numbers
 
-prefix_front : (p : List ℕ → Bool) (xs ys : List (List ℕ)) → prefix_len p xs < length xs → prefix_len p (xs ++ ys) ≡ prefix_len p xs
-prefix_front p [] ys h = absurd (omega (arith, h))
-prefix_front p (x ∷ xs) ys h =
+prefix_joined : (p : List ℕ → Bool) (xs ys : List (List ℕ)) → prefix_len p xs < length xs → prefix_len p (xs ++ ys) ≡ prefix_len p xs
+prefix_joined p [] ys h = absurd (omega (arith, h))
+prefix_joined p (x ∷ xs) ys h =
     elim (p x) as (λ b. cond b (1 + prefix_len p xs) 0 < length (x ∷ xs) → cond b (1 + prefix_len p (xs ++ ys)) 0 ≡ cond b (1 + prefix_len p xs) 0) [
-      | true ↦ λ l. ap (λ n. 1 + n) (prefix_front p xs ys (omega (arith, l)))
+      | true ↦ λ l. ap (λ n. 1 + n) (prefix_joined p xs ys (omega (arith, l)))
       | false ↦ λ l. refl
     ] h
 
 -- a text that is found stays found
-position_front : (p : List ℕ → Bool) (xs ys : List (List ℕ)) (i : ℕ) → position p xs ≡ Some i → position p (xs ++ ys) ≡ Some i
-position_front p xs ys i e =
+position_prefix : (p : List ℕ → Bool) (xs ys : List (List ℕ)) (i : ℕ) → position p xs ≡ Some i → position p (xs ++ ys) ≡ Some i
+position_prefix p xs ys i e =
     let f = found (position_or_len p xs) (length xs) i e in
-    let same = prefix_front (λ x. not (p x)) xs ys f.0 in
+    let same = prefix_joined (λ x. not (p x)) xs ys f.0 in
     is_found (position_or_len p (xs ++ ys)) (length (xs ++ ys)) i (omega (arith, f.0, same, length-append xs ys)) (same ∙ f.1)
 
 prefix_end : (p : List ℕ → Bool) (xs : List (List ℕ)) (t : List ℕ) → p t ≡ true → list_any p xs ≡ false → prefix_len (λ x. not (p x)) (xs ++ t ∷ []) ≡ length xs
@@ -55,7 +55,7 @@ position_end p xs t h n =
 kept_number : (seen : List (List ℕ)) (t : List ℕ) (p : List ℕ → Bool) (l : ℕ) → position p seen ≡ Some l → position p (with_label seen t) ≡ Some l
 kept_number seen t p l e = elim (is_seen seen t) as (λ b. position p (if b then seen else (seen ++ t ∷ [])) ≡ Some l) [
   | true ↦ e
-  | false ↦ position_front p seen (t ∷ []) l e
+  | false ↦ position_prefix p seen (t ∷ []) l e
 ]
 
 -- a text that wasn't seen has the next number
@@ -83,8 +83,8 @@ rest_of [] (suc k) g = ([], refl)
 rest_of (x ∷ xs) zero g = (steps_of (x ∷ xs), refl)
 rest_of (x ∷ xs) (suc k) g = rest_of xs k (made (step_of x) g)
 
-pub number_front : (ss : List Asked) (k : ℕ) (g : Graph) (p : List ℕ → Bool) (l : ℕ) → position p (after (steps_of (take k ss)) g).seen ≡ Some l → position p (after (steps_of ss) g).seen ≡ Some l
-number_front ss k g p l e = (let r = rest_of ss k g in ap (λ h. position p h.seen) r.1 ∙ number_stays r.0 (after (steps_of (take k ss)) g) p l e)
+pub number_prefix : (ss : List Asked) (k : ℕ) (g : Graph) (p : List ℕ → Bool) (l : ℕ) → position p (after (steps_of (take k ss)) g).seen ≡ Some l → position p (after (steps_of ss) g).seen ≡ Some l
+number_prefix ss k g p l e = (let r = rest_of ss k g in ap (λ h. position p h.seen) r.1 ∙ number_stays r.0 (after (steps_of (take k ss)) g) p l e)
 
 -- ---- how many labels there are
 
@@ -108,8 +108,8 @@ seen_grows (s ∷ ss) g = (let a = one s in let b = seen_grows ss (made s g) in 
     one (drop u) = omega arith
     one (relabel u t) = (let l = seen_grown g.seen t in omega (arith, l))
 
-pub front_seen : (ss : List Asked) (k : ℕ) (g : Graph) → length (after (steps_of (take k ss)) g).seen ≤ length (after (steps_of ss) g).seen
-front_seen ss k g = (let r = rest_of ss k g in let a = seen_grows r.0 (after (steps_of (take k ss)) g) in let b = ap (λ h. length h.seen) r.1 in omega (arith, a, b))
+pub prefix_seen : (ss : List Asked) (k : ℕ) (g : Graph) → length (after (steps_of (take k ss)) g).seen ≤ length (after (steps_of ss) g).seen
+prefix_seen ss k g = (let r = rest_of ss k g in let a = seen_grows r.0 (after (steps_of (take k ss)) g) in let b = ap (λ h. length h.seen) r.1 in omega (arith, a, b))
 
 passes : (b : Bool) (r : Result Graph Refusal) (e : Refusal) (h : Graph) → (if b then r else Err e) ≡ Ok h → (b ≡ true) × (r ≡ Ok h)
 passes true r e h p = (refl, p)

@@ -25,7 +25,7 @@ fn step_at(change: &Change, i: usize) -> &Step
     requires { i < length change.now }
     ensures { drop i change.now ≡ step_of result.now ∷ drop (i + 1) change.now }
 {
-    change.whole().step(i)
+    change.as_prefix().step(i)
 }
 
 // Whether both are those.

@@ -19,7 +19,7 @@ ghost use Rattle.graph_update.specs.PendingChanges.{graph_after, lost_at, is_add
 
 use crate::neighbours::{Neighbours, fresh_count};
 use bisim_spec::Side;
-use graph_steps::{Change, Front, Step, edge_after, edges_at, given_label, has_edge, is_seen};
+use graph_steps::{Change, Prefix, Step, edge_after, edges_at, label_after, has_edge, is_seen};
 use label_graph::{Graph, Labels};
 use px_base::{NodeId, Steps, Text};
 use std::marker::Model;
@@ -96,7 +96,7 @@ impl<'a> After<'a> {
     {
         // Called for its contract: numbers of labels fit.
         let _known = self.labels.len();
-        match self.given_label(n) {
+        match self.label_after(n) {
             Some(label) => self.number_of(label),
             None => self.graph.label(n),
         }
@@ -126,11 +126,11 @@ impl<'a> After<'a> {
     }
 
     // The label that a step gives the node, the last one where several do.
-    fn given_label(&self, n: NodeId) -> Option<&Text>
+    fn label_after(&self, n: NodeId) -> Option<&Text>
         requires live { IsTrue (is_live (graph_after self.now) n) }
         ensures { label_of (graph_after self.now) n ≡ option_or (option_map (λ t. t.now) result) (label_of self.now.before n) }
     {
-        given_label(self.graph, &self.change.whole(), n)
+        label_after(self.graph, &self.change.as_prefix(), n)
     }
 
     /// How many node numbers will have been allocated: at most 2^30. O(1), no memory.
@@ -186,7 +186,7 @@ impl<'a> After<'a> {
         ensures { result ≡ has_edge (graph_after self.now) u v }
     {
         if self.are_live(u, v) {
-            return edge_after(&self.change.whole(), u, v, present);
+            return edge_after(&self.change.as_prefix(), u, v, present);
         }
         false
     }
@@ -285,19 +285,19 @@ fn any_drops(steps: &[Step]) -> bool
 }
 
 // How many edges there are once the next step is made.
-fn edges_by(graph: &Graph, front: &Front<'_>, step: &Step, edges: u32) -> u32
-    requires few { length front.now ≤ 1024 }
+fn edges_by(graph: &Graph, prefix: &Prefix<'_>, step: &Step, edges: u32) -> u32
+    requires few { length prefix.now ≤ 1024 }
     requires few_edges { edges < 2 ^ 31 }
-    requires can { CanMakeAll front.now graph.now.graph }
-    requires can_step { CanMake (step_of step.now) (after front.now graph.now.graph) }
-    requires edges { edges ≡ set.len (after front.now graph.now.graph).edges }
-    ensures edges { result ≡ set.len (made (step_of step.now) (after front.now graph.now.graph)).edges }
+    requires can { CanMakeAll prefix.now graph.now.graph }
+    requires can_step { CanMake (step_of step.now) (after prefix.now graph.now.graph) }
+    requires edges { edges ≡ set.len (after prefix.now graph.now.graph).edges }
+    ensures edges { result ≡ set.len (made (step_of step.now) (after prefix.now graph.now.graph)).edges }
     ensures most { result ≤ edges + 1 }
 {
     match step {
-        Step::Link(u, v) => edges + one_if(!has_edge(graph, front, *u, *v)),
+        Step::Link(u, v) => edges + one_if(!has_edge(graph, prefix, *u, *v)),
         Step::Unlink(_, _) => edges - 1,
-        Step::Drop(u) => fewer(edges, edges_at(graph, front, *u)),
+        Step::Drop(u) => fewer(edges, edges_at(graph, prefix, *u)),
         _ => edges,
     }
 }
@@ -312,7 +312,7 @@ fn edges_after(graph: &Graph, change: &Change, steps: &[Step]) -> u32
 {
     let mut edges = graph.edge_count();
     for i in 0..steps.len() {
-        edges = edges_by(graph, &change.front(i), &steps[i], edges);
+        edges = edges_by(graph, &change.prefix(i), &steps[i], edges);
     }
     edges
 }
@@ -406,14 +406,14 @@ fn brings(step: &Step, label: &Text) -> bool
 }
 
 // How many labels are seen once the next step is made.
-fn labels_by(graph: &Graph, front: &[Step], step: &Step, labels: u32) -> u32
-    requires labels { labels ≡ length (after (steps_of front.now) graph.now.graph).seen }
-    requires few { length (made (step_of step.now) (after (steps_of front.now) graph.now.graph)).seen < 2 ^ 32 }
-    ensures { result ≡ length (made (step_of step.now) (after (steps_of front.now) graph.now.graph)).seen }
+fn labels_by(graph: &Graph, prefix: &[Step], step: &Step, labels: u32) -> u32
+    requires labels { labels ≡ length (after (steps_of prefix.now) graph.now.graph).seen }
+    requires few { length (made (step_of step.now) (after (steps_of prefix.now) graph.now.graph)).seen < 2 ^ 32 }
+    ensures { result ≡ length (made (step_of step.now) (after (steps_of prefix.now) graph.now.graph)).seen }
 {
     match step {
-        Step::Node(text) => labels + one_if(!is_seen(graph, front, text)),
-        Step::Relabel(_, text) => labels + one_if(!is_seen(graph, front, text)),
+        Step::Node(text) => labels + one_if(!is_seen(graph, prefix, text)),
+        Step::Relabel(_, text) => labels + one_if(!is_seen(graph, prefix, text)),
         _ => labels,
     }
 }

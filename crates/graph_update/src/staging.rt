@@ -8,7 +8,7 @@ ghost use Rattle.graph_steps.specs.NewChanges.{IsNew};
 ghost use Rattle.graph_steps.specs.StepLists.{step_of, steps_of};
 ghost use Rattle.graph_update.specs.StagedChanges.{IsStaged, ArePlanned, CanBeMade, IsMadeBy, LosesEdgesAt, applied_of};
 
-use graph_steps::{Change, Front, Step, has_edge, has_label};
+use graph_steps::{Change, Prefix, Step, has_edge, has_label};
 use label_graph::Graph;
 use px_base::{Memory, NodeId, Steps, Text};
 use smallvec::SmallVec;
@@ -103,7 +103,7 @@ fn stage_steps(
     ensures staged { OnOk result (IsStaged (steps_of steps.now) graph.new plans.new.items) }
 {
     for i in 0..steps.len() {
-        stage_step(alloc, graph, &change.front(i), &steps[i], plans)?;
+        stage_step(alloc, graph, &change.prefix(i), &steps[i], plans)?;
     }
     Ok(())
 }
@@ -112,22 +112,22 @@ fn stage_steps(
 fn stage_step(
     alloc: Global,
     graph: &mut Graph,
-    front: &Front<'_>,
+    prefix: &Prefix<'_>,
     step: &Step,
     plans: &mut SmallVec<Plan, 1>,
 ) -> Result<(), Memory>
-    requires front { CanMakeAll front.now graph.old.graph }
-    requires can { CanMake (step_of step.now) (after front.now graph.old.graph) }
-    requires staged { IsStaged front.now graph.old plans.old.items }
+    requires prefix { CanMakeAll prefix.now graph.old.graph }
+    requires can { CanMake (step_of step.now) (after prefix.now graph.old.graph) }
+    requires staged { IsStaged prefix.now graph.old plans.old.items }
     ensures graph { graph.new.graph ≡ graph.old.graph }
-    ensures staged { OnOk result (IsStaged (front.now ++ step_of step.now ∷ []) graph.new plans.new.items) }
+    ensures staged { OnOk result (IsStaged (prefix.now ++ step_of step.now ∷ []) graph.new plans.new.items) }
 {
     match step {
         Step::Node(label) => stage_node(alloc, graph, label, plans),
-        Step::Link(from, to) => stage_link(graph, front, *from, *to, plans),
+        Step::Link(from, to) => stage_link(graph, prefix, *from, *to, plans),
         Step::Unlink(from, to) => stage_unlink(graph, *from, *to, plans),
         Step::Drop(node) => stage_drop(graph, *node, plans),
-        Step::Relabel(node, label) => stage_relabel(alloc, graph, front, *node, label, plans),
+        Step::Relabel(node, label) => stage_relabel(alloc, graph, prefix, *node, label, plans),
     }
 }
 
@@ -148,18 +148,18 @@ fn stage_node(
 
 fn stage_link(
     graph: &mut Graph,
-    front: &Front<'_>,
+    prefix: &Prefix<'_>,
     from: NodeId,
     to: NodeId,
     plans: &mut SmallVec<Plan, 1>,
 ) -> Result<(), Memory>
-    requires front { CanMakeAll front.now graph.old.graph }
-    requires can { CanMake (link from to) (after front.now graph.old.graph) }
-    requires staged { IsStaged front.now graph.old plans.old.items }
+    requires prefix { CanMakeAll prefix.now graph.old.graph }
+    requires can { CanMake (link from to) (after prefix.now graph.old.graph) }
+    requires staged { IsStaged prefix.now graph.old plans.old.items }
     ensures graph { graph.new.graph ≡ graph.old.graph }
-    ensures staged { OnOk result (IsStaged (front.now ++ link from to ∷ []) graph.new plans.new.items) }
+    ensures staged { OnOk result (IsStaged (prefix.now ++ link from to ∷ []) graph.new plans.new.items) }
 {
-    if has_edge(graph, front, from, to) {
+    if has_edge(graph, prefix, from, to) {
         return Ok(());
     }
     graph.reserve_edge(from, to)?;
@@ -191,18 +191,18 @@ fn stage_drop(graph: &Graph, node: NodeId, plans: &mut SmallVec<Plan, 1>) -> Res
 fn stage_relabel(
     alloc: Global,
     graph: &mut Graph,
-    front: &Front<'_>,
+    prefix: &Prefix<'_>,
     node: NodeId,
     label: &Text,
     plans: &mut SmallVec<Plan, 1>,
 ) -> Result<(), Memory>
-    requires front { CanMakeAll front.now graph.old.graph }
-    requires can { CanMake (relabel node label.now) (after front.now graph.old.graph) }
-    requires staged { IsStaged front.now graph.old plans.old.items }
+    requires prefix { CanMakeAll prefix.now graph.old.graph }
+    requires can { CanMake (relabel node label.now) (after prefix.now graph.old.graph) }
+    requires staged { IsStaged prefix.now graph.old plans.old.items }
     ensures graph { graph.new.graph ≡ graph.old.graph }
-    ensures staged { OnOk result (IsStaged (front.now ++ relabel node label.now ∷ []) graph.new plans.new.items) }
+    ensures staged { OnOk result (IsStaged (prefix.now ++ relabel node label.now ∷ []) graph.new plans.new.items) }
 {
-    if has_label(graph, front, node, label) {
+    if has_label(graph, prefix, node, label) {
         return Ok(());
     }
     let copy = label.copy(alloc)?;

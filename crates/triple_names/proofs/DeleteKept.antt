@@ -8,7 +8,7 @@ use Rattle.graph_spec.specs.Graphs.{Graph, has_edge}
 use Rattle.graph_spec.specs.Changes.{is_used}
 use Rattle.graph_spec.proofs.Uses.{IsBare, bare_unused, unused_bare}
 use Rattle.change_spec.specs.Steps.{Step, drop, without_node, after, apply}
-use Rattle.change_spec.proofs.Fronts.{after_joined}
+use Rattle.change_spec.proofs.Prefixes.{after_joined}
 use Rattle.triples_read.specs.declared.term.Term.{Term}
 use Rattle.triples_read.specs.declared.term.Triple.{Triple}
 use Rattle.term_table.specs.Terms.{same_term}

@@ -8,7 +8,7 @@ use Rattle.graph_spec.specs.Graphs.{Graph}
 use Rattle.graph_spec.specs.Changes.{with_edge}
 use Rattle.change_spec.specs.Steps.{Step, link, made, after, apply_step, apply_all, apply}
 use Rattle.change_spec.proofs.StepGraphs.{stepped, first_made}
-use Rattle.change_spec.proofs.Fronts.{after_joined}
+use Rattle.change_spec.proofs.Prefixes.{after_joined}
 use Rattle.change_spec.proofs.Accepted.{accepted_all}
 use Rattle.triples_read.specs.Canonical.{IsSpelled}
 use Rattle.triples_read.specs.declared.term.Triple.{Triple}

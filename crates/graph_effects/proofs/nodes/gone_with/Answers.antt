@@ -1,7 +1,7 @@
 use Rattle.std.proofs.Common.{◌∙◌, ap, List}
 use Rattle.graph_steps.specs.StepLists.{steps_of}
 use Rattle.graph_steps.specs.declared.changes.Step.{Step as Asked}
-use Rattle.graph_steps.proofs.FrontSteps.{all_taken}
+use Rattle.graph_steps.proofs.PrefixSteps.{all_taken}
 use Rattle.graph_effects.specs.StepEffects.{gone_with}
 use Rattle.graph_effects.proofs.GoneNodes.{gone_next}
 use Rattle.graph_effects.proofs.nodes.gone_with.Goals as goal

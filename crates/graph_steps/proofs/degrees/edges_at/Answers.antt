@@ -9,7 +9,7 @@ use Rattle.graph_steps.proofs.degrees.edges_at.Goals as goal
 
 pub edges_behind-requires-clause-few : goal.edges_behind-requires-clause-few
 edges_behind-requires-clause-few c =
-    let len = counted c.steps.result.now c.args.front.now c.steps.ensures in
+    let len = counted c.steps.result.now c.args.prefix.now c.steps.ensures in
     let few = c.requires.few in
     omega (arith, len, few)
 

@@ -3,9 +3,9 @@ use Rattle.change_spec.specs.Steps.{after}
 use Rattle.change_spec.specs.Named.{is_dropped}
 use Rattle.graph_steps.specs.StepLists.{step_of, steps_of}
 use Rattle.graph_steps.specs.Degrees.{staying, counted_behind}
-use Rattle.graph_steps.proofs.FrontSteps.{after_at, can_at, all_taken}
-use Rattle.graph_steps.proofs.NamedParts.{counted, front_taken}
-use Rattle.graph_steps.proofs.NodeEdges.{staying_next, staying_all, staying_few, gone_within, front_not_gone}
+use Rattle.graph_steps.proofs.PrefixSteps.{after_at, can_at, all_taken}
+use Rattle.graph_steps.proofs.NamedParts.{counted, prefix_taken}
+use Rattle.graph_steps.proofs.NodeEdges.{staying_next, staying_all, staying_few, gone_within, prefix_not_gone}
 use Rattle.graph_steps.proofs.degrees.edges_behind.Goals as goal
 
 pub count_on-count-requires : goal.count_on-count-requires
@@ -21,12 +21,12 @@ count_on-count-requires c =
     let t = c.loop-i-test.true in
     record {
       few = omega (arith, few, count, edges, most, short, t);
-      within = λ n off. ap (λ k. is_dropped k n) (sym (front_taken ss c.args.front.now i c.requires.same ∙ sym c.front.ensures)) ∙ front_not_gone ss i n off;
+      within = λ n off. ap (λ k. is_dropped k n) (sym (prefix_taken ss c.args.prefix.now i c.requires.same ∙ sym c.prefix.ensures)) ∙ prefix_not_gone ss i n off;
     }
 
-pub front-requires : goal.front-requires
-front-requires c =
-    let len = counted c.args.steps.now c.args.front.now c.requires.same in
+pub prefix-requires : goal.prefix-requires
+prefix-requires c =
+    let len = counted c.args.steps.now c.args.prefix.now c.requires.same in
     let t = c.loop-i-test.true in
     omega (arith, len, t)
 
@@ -42,7 +42,7 @@ loop-i-preserved c =
     (gone_within ss i s c.loop-i-test.true c.index-steps-i.is) in
     let same = ap (λ k. staying k c.args.u (is_dropped (steps_of ss))) more in
     let was = c.loop-i.invariant in
-    let here : c.front.result ≡ steps_of (take i ss) = c.front.ensures ∙ sym (front_taken ss c.args.front.now i c.requires.same) in
+    let here : c.prefix.result ≡ steps_of (take i ss) = c.prefix.ensures ∙ sym (prefix_taken ss c.args.prefix.now i c.requires.same) in
     let now = c.count_on-count.ensures ∙ ap (λ k. counted_behind (after k g) c.args.u (is_dropped (steps_of ss)) (step_of s) c.loop-i.count) here in
     omega (arith, law, same, was, now)
 

@@ -5,4 +5,4 @@ use Rattle.graph_steps.specs.Degrees.{staying}
 use Rattle.graph_steps.proofs.degrees.edges_left.Given as goal
 
 abbrev pub invariant-loop-i : goal.invariant-loop-i
-invariant-loop-i l = l.count ≡ staying l.graph.graph l.u (is_dropped (steps_of (take l.i l.front)))
+invariant-loop-i l = l.count ≡ staying l.graph.graph l.u (is_dropped (steps_of (take l.i l.prefix)))

@@ -9,12 +9,12 @@ use Rattle.graph_steps.proofs.GrownCounts.{most_gone, left_most, left_is}
 use Rattle.graph_steps.proofs.judging.judge_drop.Goals as goal
 
 pub fewer-requires : goal.fewer-requires
-fewer-requires c = most_gone c.args.exact.edges c.going-gone.result c.args.counts.edges (after c.args.front.now c.args.graph.now.graph) c.args.u
+fewer-requires c = most_gone c.args.exact.edges c.going-gone.result c.args.counts.edges (after c.args.prefix.now c.args.graph.now.graph) c.args.u
     c.requires.counts.edges_are c.going-gone.ensures.counted c.going-gone.ensures.uncounted
 
 pub returns : goal.returns
 returns c = λ limits.
-    let h = after c.args.front.now c.args.graph.now.graph in
+    let h = after c.args.prefix.now c.args.graph.now.graph in
     let u = c.args.u in
     let live : is_live h u ≡ true = search rules in
     let counts = c.requires.counts in

@@ -8,14 +8,14 @@ use Rattle.graph_steps.proofs.NamedParts.{live_stays}
 use Rattle.graph_steps.proofs.judging.judge_link.Goals as goal
 
 pub has_edge-requires-clause-from : goal.has_edge-requires-clause-from
-has_edge-requires-clause-from c = live_stays c.args.front.now c.args.graph.now.graph c.args.u c.requires.can (search rules)
+has_edge-requires-clause-from c = live_stays c.args.prefix.now c.args.graph.now.graph c.args.u c.requires.can (search rules)
 
 pub has_edge-requires-clause-onto : goal.has_edge-requires-clause-onto
-has_edge-requires-clause-onto c = live_stays c.args.front.now c.args.graph.now.graph c.args.v c.requires.can (search rules)
+has_edge-requires-clause-onto c = live_stays c.args.prefix.now c.args.graph.now.graph c.args.v c.requires.can (search rules)
 
 pub returns-then-has_edge : goal.returns-then-has_edge
 returns-then-has_edge c =
-    let h = after c.args.front.now c.args.graph.now.graph in
+    let h = after c.args.prefix.now c.args.graph.now.graph in
     let from : is_live h c.args.u ≡ true = search rules in
     let onto : is_live h c.args.v ≡ true = search rules in
     let present : has_edge h c.args.u c.args.v ≡ true = search rules in
@@ -39,7 +39,7 @@ returns-then-has_edge c =
 
 pub returns : goal.returns
 returns c =
-    let h = after c.args.front.now c.args.graph.now.graph in
+    let h = after c.args.prefix.now c.args.graph.now.graph in
     let from : is_live h c.args.u ≡ true = search rules in
     let onto : is_live h c.args.v ≡ true = search rules in
     let absent : has_edge h c.args.u c.args.v ≡ false = search rules in

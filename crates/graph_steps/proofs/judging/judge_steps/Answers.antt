@@ -2,7 +2,7 @@ use Rattle.std.proofs.Common.{◌≡◌, ◌∙◌, ap, sym, arith, refl, subst,
 use Rattle.graph_steps.specs.Counted.{StepComes, AreCounts}
 use Rattle.graph_steps.specs.StepLists.{step_of, steps_of}
 use Rattle.change_spec.specs.Steps.{after, apply_all, is_new}
-use Rattle.graph_steps.proofs.FrontSteps.{some_at, can_next, after_at, all_taken}
+use Rattle.graph_steps.proofs.PrefixSteps.{some_at, can_next, after_at, all_taken}
 use Rattle.graph_steps.proofs.Verdicts.{applied_next, refused_at, new_next, few_apply, judged}
 use Rattle.graph_steps.proofs.judging.judge_steps.Goals as goal
 

@@ -5,7 +5,7 @@ use Rattle.label_graph.specs.LabelTable.{entries}
 use Rattle.change_spec.specs.Steps.{after, made}
 use Rattle.graph_steps.specs.StepLists.{step_of, steps_of}
 use Rattle.graph_steps.specs.declared.changes.Step.{Step as Asked}
-use Rattle.graph_steps.proofs.FrontSteps.{after_at, all_taken}
+use Rattle.graph_steps.proofs.PrefixSteps.{after_at, all_taken}
 use Rattle.graph_update.proofs.LabelsAhead.{shown_first}
 use Rattle.graph_update.proofs.pending.each_ahead.Goals as goal
 

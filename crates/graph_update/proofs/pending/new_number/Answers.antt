@@ -4,8 +4,8 @@ use Rattle.graph_spec.specs.Graphs.{is_seen}
 use Rattle.change_spec.specs.Steps.{after}
 use Rattle.graph_steps.specs.StepLists.{steps_of}
 use Rattle.graph_steps.specs.declared.changes.Step.{Step as Asked}
-use Rattle.graph_steps.proofs.FrontSteps.{after_at, all_taken}
-use Rattle.graph_update.proofs.LabelLaws.{unseen_number, number_front, front_seen}
+use Rattle.graph_steps.proofs.PrefixSteps.{after_at, all_taken}
+use Rattle.graph_update.proofs.LabelLaws.{unseen_number, number_prefix, prefix_seen}
 use Rattle.graph_update.proofs.pending.new_number.Goals as goal
 
 pub returns-then-brings : goal.returns-then-brings
@@ -18,7 +18,7 @@ returns-then-brings c =
     let inv = c.loop-i.invariant in
     let more = after_at ss i c.index-steps-i.result g c.loop-i-test.true c.index-steps-i.is in
     let some = c.brings.ensures.some c.if-brings.true in
-    number_front ss (i + 1) g (bytes_eq label) c.loop-i.labels
+    number_prefix ss (i + 1) g (bytes_eq label) c.loop-i.labels
     (ap (λ k. position (bytes_eq label) k.seen) more ∙ ap (position (bytes_eq label)) (some h) ∙ unseen_number h.seen label inv.unseen ∙ ap Some (sym inv.labels))
 
 pub labels_by-labels-requires-clause-labels : goal.labels_by-labels-requires-clause-labels
@@ -30,7 +30,7 @@ labels_by-labels-requires-clause-few c =
     let i = c.loop-i.i in
     let g = c.args.graph.now.graph in
     let more = ap (λ k. length k.seen) (after_at ss i c.index-steps-i-in-loop-i.result g c.loop-i-test.true c.index-steps-i-in-loop-i.is) in
-    let law = front_seen ss (i + 1) g in
+    let law = prefix_seen ss (i + 1) g in
     let few = c.requires.few in
     omega (arith, more, law, few)
 

@@ -15,7 +15,7 @@ edge_after-requires-clause-from c =
     let g = c.self.inside.graph.now.graph in
     let ss = c.self.inside.change.now in
     let live = and_parts (is_live (graph_after p) c.args.u) (is_live (graph_after p) c.args.v) (sym c.are_live.ensures ∙ c.if-are_live.true) in
-    ap (λ k. is_dropped k c.args.u) c.whole.ensures
+    ap (λ k. is_dropped k c.args.u) c.as_prefix.ensures
     ∙ live_stays ss g c.args.u (new_can ss g c.self.invariant.new) (subst (λ (q : Pending). is_live (graph_after q) c.args.u ≡ true) (sym c.self.view_is) live.0)
 
 pub edge_after-requires-clause-onto : goal.edge_after-requires-clause-onto
@@ -24,14 +24,14 @@ edge_after-requires-clause-onto c =
     let g = c.self.inside.graph.now.graph in
     let ss = c.self.inside.change.now in
     let live = and_parts (is_live (graph_after p) c.args.u) (is_live (graph_after p) c.args.v) (sym c.are_live.ensures ∙ c.if-are_live.true) in
-    ap (λ k. is_dropped k c.args.v) c.whole.ensures
+    ap (λ k. is_dropped k c.args.v) c.as_prefix.ensures
     ∙ live_stays ss g c.args.v (new_can ss g c.self.invariant.new) (subst (λ (q : Pending). is_live (graph_after q) c.args.v ≡ true) (sym c.self.view_is) live.1)
 
 pub returns-then-are_live : goal.returns-then-are_live
 returns-then-are_live c =
     let u = c.args.u in
     let v = c.args.v in
-    c.edge_after.ensures ∙ ap (λ k. edge_after k u v c.args.present) c.whole.ensures
+    c.edge_after.ensures ∙ ap (λ k. edge_after k u v c.args.present) c.as_prefix.ensures
     ∙ ap (λ (q : Pending). edge_after q.change u v c.args.present) c.self.view_is ∙ ap (edge_after c.args.self.now.change u v) c.requires
     ∙ sym (edge_all c.args.self.now.change c.args.self.now.before u v)
 

@@ -12,14 +12,14 @@ pub label-requires : goal.label-requires
 label-requires c =
     let p = c.args.self.now in
     let n = c.args.n in
-    let same = c.given_label.ensures ∙ ap (λ o. option_or (option_map (λ t. t.now) o) (label_of p.before n)) c.in-None.is in
+    let same = c.label_after.ensures ∙ ap (λ o. option_or (option_map (λ t. t.now) o) (label_of p.before n)) c.in-None.is in
     record { live = subst (λ (q : Pending). IsTrue (is_live q.before n)) (sym c.self.view_is) (ap is_some (sym same) ∙ c.requires.live) }
 
 pub returns-in-None-clause-number : goal.returns-in-None-clause-number
 returns-in-None-clause-number c =
     let p = c.args.self.now in
     let n = c.args.n in
-    let same = c.given_label.ensures ∙ ap (λ o. option_or (option_map (λ t. t.now) o) (label_of p.before n)) c.in-None.is in
+    let same = c.label_after.ensures ∙ ap (λ o. option_or (option_map (λ t. t.now) o) (label_of p.before n)) c.in-None.is in
     number_kept p.change p.before n c.label.result same (subst (λ (q : Pending). label_number q.before n ≡ Some c.label.result) c.self.view_is c.label.ensures.number)
 
 pub returns-in-None-clause-text : goal.returns-in-None-clause-text
@@ -31,7 +31,7 @@ number_of-requires-clause-seen c =
     let g = c.self.inside.graph.now.graph in
     let n = c.args.n in
     let t = c.in-Some.label.now in
-    let named = c.given_label.ensures ∙ ap (λ o. option_or (option_map (λ t. t.now) o) (label_of p.before n)) c.in-Some.is in
+    let named = c.label_after.ensures ∙ ap (λ o. option_or (option_map (λ t. t.now) o) (label_of p.before n)) c.in-Some.is in
     subst (λ (q : Pending). is_seen (graph_after q).seen t ≡ true) c.self.view_is
     ((new_graph c.self.inside.change.now g c.self.invariant.new c.self.invariant.sound).labelled n t
     (subst (λ (q : Pending). label_of (graph_after q) n ≡ Some t) (sym c.self.view_is) named))
@@ -51,7 +51,7 @@ returns-in-Some-clause-number c =
     let p = c.args.self.now in
     let n = c.args.n in
     let t = c.in-Some.label.now in
-    let named = c.given_label.ensures ∙ ap (λ o. option_or (option_map (λ t. t.now) o) (label_of p.before n)) c.in-Some.is in
+    let named = c.label_after.ensures ∙ ap (λ o. option_or (option_map (λ t. t.now) o) (label_of p.before n)) c.in-Some.is in
     number_is (graph_after p) n c.number_of.result t named c.number_of.ensures
 
 pub returns-in-Some-clause-text : goal.returns-in-Some-clause-text
