@@ -1,8 +1,8 @@
 //! The words of the command line, read by `clap` as one simple command: a script, options with one text, and flags.
 #![tactic(auto)]
 
-mod form;
 mod arguments;
+mod form;
 mod rules;
 #[cfg(test)]
 mod tests;

@@ -8,8 +8,8 @@ ghost use Rattle.extent_report.specs.ListedBlocks.{texts_below};
 ghost use Rattle.extent_report.specs.Summaries.{shape_of_blocks, LabelsHaveTexts, ListsBlocks, line_of, line_at};
 ghost use Rattle.extent_report.specs.MemberChains.{is_first_member, word_with};
 
-use crate::member_chains::Chains;
 use crate::gathered::text_by_members;
+use crate::member_chains::Chains;
 use crate::output::{end_line, push_count, push_node};
 use label_graph::Labels;
 use px_base::{Memory, NodeId, Text};

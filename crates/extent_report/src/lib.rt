@@ -2,10 +2,10 @@
 #![tactic(auto)]
 
 mod answers;
-mod member_chains;
 mod extents;
 mod gathered;
 mod is_first_member;
+mod member_chains;
 mod output;
 mod sizes;
 mod walks;

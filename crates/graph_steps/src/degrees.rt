@@ -10,8 +10,8 @@ ghost use Rattle.graph_steps.specs.Counted.{touching};
 ghost use Rattle.graph_steps.specs.Degrees.{stays_at, staying, one_for, lost_by, counted_behind};
 
 use crate::changes::Step;
-use crate::reads::{edge_before, has_edge};
 use crate::prefix::Prefix;
+use crate::reads::{edge_before, has_edge};
 use label_graph::Graph;
 use px_base::{NodeId, Steps};
 use std::marker::Brand;

@@ -11,9 +11,9 @@ ghost use Rattle.graph_steps.specs.Verdicts.{Judges};
 use crate::changes::{Change, Step, Verdict};
 use crate::counting::{Counts, Exact, Taken, counts_of, exact_for};
 use crate::degrees::edges_at;
-use crate::reads::{either, has_edge, is_live, is_seen};
 use crate::labels::has_label;
 use crate::prefix::Prefix;
+use crate::reads::{either, has_edge, is_live, is_seen};
 use label_graph::Graph;
 use px_base::{Limits, NodeId, Refusal, Text};
 

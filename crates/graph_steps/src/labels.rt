@@ -9,8 +9,8 @@ ghost use Rattle.graph_steps.specs.NodePlaces.{node_places};
 ghost use Rattle.graph_steps.specs.StepLabels.{label_added, relabel_by, relabelled};
 
 use crate::changes::Step;
-use crate::reads::is_same;
 use crate::prefix::Prefix;
+use crate::reads::is_same;
 use label_graph::Graph;
 use px_base::{NodeId, Text};
 

@@ -19,7 +19,7 @@ ghost use Rattle.graph_update.specs.PendingChanges.{graph_after, lost_at, is_add
 
 use crate::neighbours::{Neighbours, fresh_count};
 use bisim_spec::Side;
-use graph_steps::{Change, Prefix, Step, edge_after, edges_at, label_after, has_edge, is_seen};
+use graph_steps::{Change, Prefix, Step, edge_after, edges_at, has_edge, is_seen, label_after};
 use label_graph::{Graph, Labels};
 use px_base::{NodeId, Steps, Text};
 use std::marker::Model;

@@ -5,5 +5,5 @@ mod index;
 mod summary;
 
 pub use index::OneKept;
-pub use summary::KeptSummary;
 pub use one_update::{merge, split};
+pub use summary::KeptSummary;

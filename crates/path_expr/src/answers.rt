@@ -5,8 +5,8 @@ ghost use Rattle.path_automaton.specs.Digraphs.{shape_through};
 ghost use Rattle.path_spec.specs.PathAnswers.{AreAnswers};
 ghost use Rattle.path_spec.specs.PartialGraphs.{part_of};
 
-use crate::trimming::compile_trimmed;
 use crate::tree::Expr;
+use crate::trimming::compile_trimmed;
 use label_graph::{Digraph, Labels};
 use path_automaton::{Program, search, search_within};
 use px_base::{Bits, Memory};

@@ -6,11 +6,11 @@
 
 mod answers;
 mod compile;
-mod trimming;
 mod lengths;
 mod nullable;
-mod tree_parts;
 mod tree;
+mod tree_parts;
+mod trimming;
 
 pub use answers::{eval, eval_within};
 pub use compile::compile_expr;

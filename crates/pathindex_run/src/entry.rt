@@ -15,8 +15,8 @@ ghost use Rattle.pathindex_run.specs.StatusCodes.{code_of};
 ghost use Rattle.pathindex_run.specs.ObservableFiles.{BeginsObservable};
 
 use crate::check::run_check;
-use crate::seeded::run_seeded;
 use crate::output::{show_refusal, show_usage};
+use crate::seeded::run_seeded;
 use crate::status::{Status, status_of};
 use command_line::{Form, Settings, read_words};
 use graph_load::{LoadError, load_named};

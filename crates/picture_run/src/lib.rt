@@ -1,8 +1,8 @@
 //! What `pathindex_dot` does, from the words of the command line and the bytes of a graph file to the picture and the exit status.
 #![tactic(auto)]
 
-mod drawing;
 mod arguments;
+mod drawing;
 mod output;
 mod rules;
 mod settings;
