@@ -8,3 +8,4 @@ pub mod IndexEffects
 pub mod SingleSteps
 pub mod SameParents
 pub mod UnsteadyLaws
+pub mod KeptParents

@@ -51,6 +51,10 @@ minimal_same s s2 p h min = record {
   apart = λ x y a b ex ey ne can. min.apart x y a b ex ey ne (stable_same s2 s (merged a b p) (same_back s s2 (merged a b p) (same_merged s s2 p a b h)) can);
 }
 
+-- a node of the graph is in one block with itself
+pub self_together : (g : Graph) (p : List (Option ℕ)) (n : ℕ) → Stable (shape_of g) p → IsNode (shape_of g) n → Together p n n
+self_together g p n st k = let b = some_of (at p n) (st.partition.live n k) in (b.0, b.1, b.1)
+
 -- the first graph, in which nodes that pass have the parents that they have in the second one
 pub part_changed : Graph → Graph → (ℕ → Bool) → Shape
 part_changed g g2 keeps = record { size = length g.allocated; label = label_of g; edge = λ x y. cond (keeps y) (has_edge g2 x y) (has_edge g x y) }
@@ -61,18 +65,15 @@ part_same g g2 p keeps graph st h = record {
   label = λ n. refl;
   into = λ x y e. elim (cases_Bool (keeps y)) [
     | inl on ↦ (let z = h.into x y on e in (z.0, ap (λ t. cond t (has_edge g2 z.0 y) (has_edge g z.0 y)) on ∙ z.1, z.2))
-    | inr off ↦ (x, ap (λ t. cond t (has_edge g2 x y) (has_edge g x y)) off ∙ e, self x ((is_shape g graph).from x y e))
+    | inr off ↦ (x, ap (λ t. cond t (has_edge g2 x y) (has_edge g x y)) off ∙ e, self_together g p x st ((is_shape g graph).from x y e))
   ];
   back = λ x y e. elim (cases_Bool (keeps y)) [
     | inl on ↦ h.back x y on (sym (ap (λ t. cond t (has_edge g2 x y) (has_edge g x y)) on) ∙ e)
     | inr off ↦ (
         let was = sym (ap (λ t. cond t (has_edge g2 x y) (has_edge g x y)) off) ∙ e in
-        (x, was, self x ((is_shape g graph).from x y was)))
+        (x, was, self_together g p x st ((is_shape g graph).from x y was)))
   ];
 }
-  where
-    self : (n : ℕ) → IsNode (shape_of g) n → Together p n n
-    self n k = let b = some_of (at p n) (st.partition.live n k) in (b.0, b.1, b.1)
 
 -- where the nodes that pass are nodes of both graphs with the labels that they had, and keep their parent blocks: it is a graph, and
 -- the second one differs from it at the others alone
@@ -104,21 +105,19 @@ part_differs g g2 found keeps h = record {
   edge = λ p n live off. ap (λ t. cond t (has_edge g2 p n) (has_edge g p n)) (h n live off).1;
 }
 
--- Where nodes that pass lose no parent, and get parents alone of which the block had support to theirs, they keep their parent blocks.
+-- Where each parent of a node that passes stays, or another one in its block does, and such nodes get parents alone of which the block
+-- had support to theirs, they keep their parent blocks.
 pub keep_parents : (g g2 : Graph) (p : List (Option ℕ)) (keeps : ℕ → Bool) → IsGraph g → Stable (shape_of g) p
-    → ((x y : ℕ) → IsTrue (keeps y) → IsTrue (has_edge g x y) → IsTrue (has_edge g2 x y))
+    → ((x y : ℕ) → IsTrue (keeps y) → IsTrue (has_edge g x y) → (z : ℕ) × IsTrue (has_edge g2 z y) × Together p x z)
     → ((x y : ℕ) → IsTrue (keeps y) → IsTrue (has_edge g2 x y) → IsFalse (has_edge g x y) → (a b : ℕ) × (at p x ≡ Some a) × (at p y ≡ Some b) × Adjacent (shape_of g) p a b)
     → KeepParents g g2 p keeps
 keep_parents g g2 p keeps graph st stay support = record {
-  into = λ x y on e. (x, stay x y on e, self x ((is_shape g graph).from x y e));
+  into = stay;
   back = λ x y on e. elim (cases_Bool (has_edge g x y)) [
-    | inl was ↦ (x, was, self x ((is_shape g graph).from x y was))
+    | inl was ↦ (x, was, self_together g p x st ((is_shape g graph).from x y was))
     | inr new ↦ (
         let (a, b, hx, hy, (u, v, k, hu, hv)) = support x y on e new in
         let r = stable_parents (shape_of g) p st v y (b, hv, hy) u k in
         (r.0, r.1, (a, hx, together_at p u r.0 a r.2 hu)))
   ];
 }
-  where
-    self : (n : ℕ) → IsNode (shape_of g) n → Together p n n
-    self n k = let b = some_of (at p n) (st.partition.live n k) in (b.0, b.1, b.1)

@@ -8,6 +8,7 @@ use Rattle.std.proofs.lemmas.List.{append_assoc}
 use Rattle.std.proofs.lemmas.List.Folds.{list_any-append}
 use Rattle.graph_spec.specs.Graphs.{Graph, IsGraph, is_live, has_edge}
 use Rattle.graph_spec.specs.Members.{at, has}
+use Rattle.graph_spec.proofs.GraphLaws.{is_shape}
 use Rattle.change_spec.specs.Steps.{Step, after}
 use Rattle.change_spec.specs.Altered.{targets}
 use Rattle.bisim_spec.specs.declared.sides.Side.TheVariants.{Parents}
@@ -19,8 +20,8 @@ use Rattle.graph_effects.specs.StepEffects.{node_if, live_ends}
 use Rattle.graph_effects.proofs.EffectLaws.{was_live, label_kept}
 use Rattle.graph_effects.proofs.StepEffects.{ends_there, ends_from}
 use Rattle.quotient.specs.Quotients.{Quotient, view_of}
-use Rattle.one_update.specs.UnsteadyNodes.{AreUnsteady, is_unlisted, supports_block, supports_edge, unsupported_ends, unsteady_nodes}
-use Rattle.one_update.proofs.SameParents.{keep_parents}
+use Rattle.one_update.specs.UnsteadyNodes.{AreUnsteady, AreUnkept, AreUnsteadyBy, is_unlisted, supports_block, supports_edge, unsupported_ends, unsteady_nodes}
+use Rattle.one_update.proofs.SameParents.{keep_parents, self_together}
 
 if_has : (b : Bool) (m n : ℕ) → has (node_if b m) n ≡ (b && nat_eq n m)
 if_has true m n = or_off (nat_eq n m)
@@ -77,34 +78,34 @@ unsupported_next q e es left b xs ys whole cut h is k =
 
 -- ---- the nodes that are listed
 
-lists_has : (q : Quotient) (g2 : Graph) (e : EffectLists) (n : ℕ)
-    → has (unsteady_nodes q g2 e) n ≡ (((has e.came n || has e.relabelled n) || has (live_ends Parents g2 e.lost) n) || has (unsupported_ends q e.added) n)
-lists_has q g2 e n =
-    list_any-append (nat_eq n) ((e.came ++ e.relabelled) ++ live_ends Parents g2 e.lost) (unsupported_ends q e.added)
-    ∙ ap (λ b. b || has (unsupported_ends q e.added) n) (list_any-append (nat_eq n) (e.came ++ e.relabelled) (live_ends Parents g2 e.lost))
-    ∙ ap (λ b. (b || has (live_ends Parents g2 e.lost) n) || has (unsupported_ends q e.added) n) (list_any-append (nat_eq n) e.came e.relabelled)
+lists_has : (q : Quotient) (g2 : Graph) (e : EffectLists) (left : List (ℕ × ℕ)) (n : ℕ)
+    → has (unsteady_nodes q g2 e left) n ≡ (((has e.came n || has e.relabelled n) || has (live_ends Parents g2 left) n) || has (unsupported_ends q e.added) n)
+lists_has q g2 e left n =
+    list_any-append (nat_eq n) ((e.came ++ e.relabelled) ++ live_ends Parents g2 left) (unsupported_ends q e.added)
+    ∙ ap (λ b. b || has (unsupported_ends q e.added) n) (list_any-append (nat_eq n) (e.came ++ e.relabelled) (live_ends Parents g2 left))
+    ∙ ap (λ b. (b || has (live_ends Parents g2 left) n) || has (unsupported_ends q e.added) n) (list_any-append (nat_eq n) e.came e.relabelled)
 
 -- each is a target of the effects
-listed_target : (g g2 : Graph) (q : Quotient) (e : EffectLists) (n : ℕ) → AreEffects g g2 e → has (unsteady_nodes q g2 e) n ≡ true → IsTrue (has e.targets n)
-listed_target g g2 q e n w h = elim (or_cases ((has e.came n || has e.relabelled n) || has (live_ends Parents g2 e.lost) n) (has (unsupported_ends q e.added) n) (sym (lists_has q g2 e n) ∙ h)) [
-  | inl front ↦ elim (or_cases (has e.came n || has e.relabelled n) (has (live_ends Parents g2 e.lost) n) front) [
+listed_target : (g g2 : Graph) (q : Quotient) (e : EffectLists) (left : List (ℕ × ℕ)) (n : ℕ) → AreEffects g g2 e → AreUnkept g2 q.blocks.block_of e.lost left → has (unsteady_nodes q g2 e left) n ≡ true → IsTrue (has e.targets n)
+listed_target g g2 q e left n w unkept h = elim (or_cases ((has e.came n || has e.relabelled n) || has (live_ends Parents g2 left) n) (has (unsupported_ends q e.added) n) (sym (lists_has q g2 e left n) ∙ h)) [
+  | inl front ↦ elim (or_cases (has e.came n || has e.relabelled n) (has (live_ends Parents g2 left) n) front) [
     | inl nodes ↦ elim (or_cases (has e.came n) (has e.relabelled n) nodes) [ inl came ↦ w.target_came n came | inr other ↦ w.target_relabelled n other ]
-    | inr lost ↦ (let r = ends_from Parents g2 e.lost n lost in w.target_lost r.1.0 n r.1.1 r.0)
+    | inr lost ↦ (let r = ends_from Parents g2 left n lost in w.target_lost r.1.0 n (unkept.among r.1.0 n r.1.1) r.0)
   ]
   | inr added ↦ (let r = unsupported_from q e.added n added in w.target_added r.0 n r.1)
 ]
 
 -- what a node that isn't listed isn't
-record IsNone (q : Quotient) (g2 : Graph) (e : EffectLists) (n : ℕ) : Type 0 where
+record IsNone (q : Quotient) (g2 : Graph) (e : EffectLists) (left : List (ℕ × ℕ)) (n : ℕ) : Type 0 where
   pub came : has e.came n ≡ false
   pub relabelled : has e.relabelled n ≡ false
-  pub lost : has (live_ends Parents g2 e.lost) n ≡ false
+  pub lost : has (live_ends Parents g2 left) n ≡ false
   pub added : has (unsupported_ends q e.added) n ≡ false
 
-none_of : (q : Quotient) (g2 : Graph) (e : EffectLists) (n : ℕ) → has (unsteady_nodes q g2 e) n ≡ false → IsNone q g2 e n
-none_of q g2 e n h =
-    let all = parts ((has e.came n || has e.relabelled n) || has (live_ends Parents g2 e.lost) n) (has (unsupported_ends q e.added) n) (sym (lists_has q g2 e n) ∙ h) in
-    let front = parts (has e.came n || has e.relabelled n) (has (live_ends Parents g2 e.lost) n) all.0 in
+none_of : (q : Quotient) (g2 : Graph) (e : EffectLists) (left : List (ℕ × ℕ)) (n : ℕ) → has (unsteady_nodes q g2 e left) n ≡ false → IsNone q g2 e left n
+none_of q g2 e left n h =
+    let all = parts ((has e.came n || has e.relabelled n) || has (live_ends Parents g2 left) n) (has (unsupported_ends q e.added) n) (sym (lists_has q g2 e left n) ∙ h) in
+    let front = parts (has e.came n || has e.relabelled n) (has (live_ends Parents g2 left) n) all.0 in
     let nodes = parts (has e.came n) (has e.relabelled n) front.0 in
     record { came = nodes.0; relabelled = nodes.1; lost = front.1; added = all.1 }
   where
@@ -123,19 +124,22 @@ new_from true true h k = absurd (true≢false k)
 new_from false b h k = absurd (true≢false (sym h))
 
 pub unsteady_found : (g : Graph) (c : List Step) (q : Quotient) (e : EffectLists) (list : List ℕ) → IsGraph g → FitsOne g (view_of q) → AreEffects g (after c g) e
-    → ((n : ℕ) → IsTrue (has e.targets n) → IsTrue (targets c g n)) → IsDistinct nat_eq list → ((n : ℕ) → has list n ≡ has (unsteady_nodes q (after c g) e) n)
+    → ((n : ℕ) → IsTrue (has e.targets n) → IsTrue (targets c g n)) → IsDistinct nat_eq list → AreUnsteadyBy q (after c g) e list
     → AreUnsteady g c q.blocks.block_of list
-unsteady_found g c q e list graph fits w among once same = record {
+unsteady_found g c q e list graph fits w among once by = record {
   once = once;
-  among = λ n h. among n (listed_target g (after c g) q e n w (sym (same n) ∙ h));
+  among = λ n h. among n (listed_target g (after c g) q e by.left n w by.unkept (sym (by.same n) ∙ h));
   labels = λ n h. (let k = unlisted n h in sym (label_kept g (after c g) e n w (was_live g (after c g) e n w k.0 k.1.came) k.0 k.1.relabelled));
   parents = keep_parents g (after c g) q.blocks.block_of (is_unlisted (after c g) list) graph fits.index.stable
       (λ x y h was. elim (cases_Bool (has_edge (after c g) x y)) [
-        | inl stays ↦ stays
+        | inl stays ↦ (x, stays, self_together g q.blocks.block_of x fits.index.stable ((is_shape g graph).from x y was))
         | inr goes ↦ (
             let k = unlisted y h in
             let lost : has_pair e.lost x y ≡ true = w.lost.members x y ∙ new_from (has_edge g x y) (has_edge (after c g) x y) was goes in
-            absurd (both_ways (has (live_ends Parents (after c g) e.lost) y) k.1.lost (ends_there Parents (after c g) e.lost x y lost k.0)))
+            elim (by.unkept.others x y lost k.0) [
+              | inl there ↦ absurd (both_ways (has (live_ends Parents (after c g) by.left) y) k.1.lost (ends_there Parents (after c g) by.left x y there k.0))
+              | inr keeps ↦ keeps
+            ])
       ])
       (λ x y h is new.
       let k = unlisted y h in
@@ -145,7 +149,7 @@ unsteady_found g c q e list graph fits w among once same = record {
       (a, b, hx, hy, support_adjacent g q.blocks.block_of a b (omega (arith, some, base))));
 }
   where
-    unlisted : (n : ℕ) → IsTrue (is_unlisted (after c g) list n) → IsTrue (is_live (after c g) n) × IsNone q (after c g) e n
+    unlisted : (n : ℕ) → IsTrue (is_unlisted (after c g) list n) → IsTrue (is_live (after c g) n) × IsNone q (after c g) e by.left n
     unlisted n h =
         let both = and_parts (is_live (after c g) n) (not (has list n)) h in
-        (both.0, none_of q (after c g) e n (sym (same n) ∙ not-true (has list n) both.1))
+        (both.0, none_of q (after c g) e by.left n (sym (by.same n) ∙ not-true (has list n) both.1))

@@ -48,10 +48,10 @@ fn draft_settled<L: Ledger>(
     ensures covers { CoversBase base.now parentless.new }
     ensures shown { OnOk result (CoversShown base.now draft.new parentless.new) }
     ensures drafted { OnOk result (IsDrafted after.now.before after.now.change base.now draft.new) }
-    ensures cost { steps.new ≤ steps.old + 4 * rounds_cost after.now.before after.now.change }
+    ensures cost { steps.new ≤ steps.old + 6 * rounds_cost after.now.before after.now.change }
 {
     draft_effects(base, draft, after, effects)?;
-    let found = unsteady(alloc, base, after, effects)?;
+    let found = unsteady(alloc, base, after, effects, steps)?;
     resettle(alloc, base, draft, parentless, after, &found, steps)?;
     Ok(())
 }

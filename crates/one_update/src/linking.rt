@@ -74,8 +74,8 @@ fn any_in(base: &Summary, nodes: Neighbours<'_>, b: u32) -> bool
     false
 }
 
-// Whether a parent of the node, in the graph after the change, is in the block. The node's parents are read.
-fn has_parent_in<L: Ledger>(
+/// Whether a parent of the node, in the graph after the change, is in the block. The node's parents are read.
+pub(crate) fn has_parent_in<L: Ledger>(
     base: &Summary,
     after: &After<'_>,
     v: NodeId,

@@ -1,18 +1,23 @@
 // The nodes at which a change may leave the partition unstable.
-ghost use Rattle.std.specs.Prelude.{◌≡◌, ◌++◌, not, ℕ, IfOk, OnOk, nat_eq};
+ghost use Rattle.std.specs.Prelude.{◌≡◌, ◌++◌, ◌∷◌, [], if◌then◌else◌, not, ℕ, IsTrue, IfOk, OnOk, OnErr, nat_eq};
 ghost use Rattle.std.specs.List.{IsDistinct};
 ghost use Rattle.graph_spec.specs.Members.{has};
 ghost use Rattle.graph_update.specs.PendingChanges.{graph_after};
 ghost use Rattle.bisim_spec.specs.declared.sides.Side.TheVariants.{Parents};
 ghost use Rattle.graph_effects.specs.StepEffects.{node_if, live_ends};
+ghost use Rattle.one_update.specs.OneDrafts.{IsBefore};
 ghost use Rattle.one_update.specs.UnsteadyNodes.{supports_edge, unsupported_ends, unsteady_nodes};
+ghost use Rattle.one_update.specs.UnsteadyNodes.{AreUnkept, AreUnsteadyBy, KeepsParentBlock, HasRead, ReadsOne};
 
+use crate::linking::has_parent_in;
 use graph_effects::Effects;
 use graph_update::After;
+use indexmap::IndexSet;
 use key_table::sort_dedup;
-use px_base::{Memory, NodeId};
+use px_base::{Memory, NodeId, Steps};
 use quotient::Summary;
 use std::alloc::Global;
+use std::sync::ledger::Ledger;
 
 // The node is noted where it is wanted.
 fn note_if(nodes: &mut Vec<NodeId>, n: NodeId, wanted: bool) -> Result<(), Memory>
@@ -53,6 +58,88 @@ fn note_lost(
     Ok(())
 }
 
+// The edge is put behind the list, unless it is left out.
+fn push_unless(
+    list: &mut Vec<(NodeId, NodeId)>,
+    edge: (NodeId, NodeId),
+    left_out: bool,
+) -> Result<(), Memory>
+    ensures { OnOk result (list.new.items ≡ (if left_out then list.old.items else list.old.items ++ edge ∷ [])) }
+{
+    if !left_out {
+        list.push(edge)?;
+    }
+    Ok(())
+}
+
+// Whether it is found that the end of an edge that goes has, after the change, a parent in the block of its beginning. The
+// parents of an end are read once: of one in the set nothing is found.
+fn keeps_parent<L: Ledger>(
+    base: &Summary,
+    after: &After<'_>,
+    u: NodeId,
+    v: NodeId,
+    read: &mut IndexSet<NodeId>,
+    steps: &mut Steps<L>,
+) -> Result<bool, Memory>
+    requires before { IsBefore after.now base.now }
+    ensures yes { IfOk result (λ kept. IsTrue kept → KeepsParentBlock (graph_after after.now) base.now.blocks.block_of u v) }
+    ensures read { OnOk result (ReadsOne after.now v read.old.keys read.new.keys steps.old steps.new) }
+    ensures err { OnErr result (steps.new ≡ steps.old) }
+{
+    let Some(b) = base.block_of(u) else {
+        return Ok(false);
+    };
+    if !after.is_live(v) {
+        return Ok(false);
+    }
+    if read.contains(&v) {
+        return Ok(false);
+    }
+    read.insert(v)?;
+    Ok(has_parent_in(base, after, v, b, steps))
+}
+
+// Lists the edges that go but for those of which the end is found to keep a parent in the same block.
+fn fill_unkept<L: Ledger>(
+    list: &mut Vec<(NodeId, NodeId)>,
+    read: &mut IndexSet<NodeId>,
+    base: &Summary,
+    after: &After<'_>,
+    lost: &[(NodeId, NodeId)],
+    steps: &mut Steps<L>,
+) -> Result<(), Memory>
+    requires before { IsBefore after.now base.now }
+    requires empty { list.old.items ≡ [] }
+    requires unread { read.old.keys ≡ [] }
+    ensures unkept { OnOk result (AreUnkept (graph_after after.now) base.now.blocks.block_of lost.now list.new.items) }
+    ensures read { HasRead after.now lost.now steps.old steps.new }
+{
+    for i in 0..lost.len() {
+        let kept = keeps_parent(base, after, lost[i].0, lost[i].1, read, steps)?;
+        push_unless(list, lost[i], kept)?;
+    }
+    Ok(())
+}
+
+// The edges that go but for those of which the end is found to keep a parent in the same block.
+fn unkept<L: Ledger>(
+    alloc: Global,
+    base: &Summary,
+    after: &After<'_>,
+    lost: &[(NodeId, NodeId)],
+    steps: &mut Steps<L>,
+) -> Result<Vec<(NodeId, NodeId)>, Memory>
+    requires before { IsBefore after.now base.now }
+    ensures unkept { IfOk result (λ list. AreUnkept (graph_after after.now) base.now.blocks.block_of lost.now list.items) }
+    ensures read { HasRead after.now lost.now steps.old steps.new }
+{
+    let mut list = Vec::new(alloc);
+    let mut read = IndexSet::new(alloc);
+    fill_unkept(&mut list, &mut read, base, after, lost, steps)?;
+    Ok(list)
+}
+
 // The ends of edges that come are noted, but for edges between blocks that have support.
 fn note_unsupported(
     nodes: &mut Vec<NodeId>,
@@ -69,35 +156,41 @@ fn note_unsupported(
     Ok(())
 }
 
-// The nodes that come, those that get another label, those that lose a parent, and those that get one in a block without
+// The nodes that come, those that get another label, the ends of these edges, and those that get a parent in a block without
 // support.
 fn list_unsteady(
     alloc: Global,
     base: &Summary,
     after: &After<'_>,
     effects: &Effects,
+    left: &[(NodeId, NodeId)],
 ) -> Result<Vec<NodeId>, Memory>
-    ensures { IfOk result (λ nodes. nodes.items ≡ unsteady_nodes base.now (graph_after after.now) effects.now) }
+    ensures { IfOk result (λ nodes. nodes.items ≡ unsteady_nodes base.now (graph_after after.now) effects.now left.now) }
 {
     let mut nodes = effects.came().to_vec(alloc)?;
     nodes.extend_from_slice(effects.relabelled())?;
-    note_lost(&mut nodes, effects.lost(), after)?;
+    note_lost(&mut nodes, left, after)?;
     note_unsupported(&mut nodes, effects.added(), base)?;
     Ok(nodes)
 }
 
 /// The nodes at which a change may leave the partition unstable, each once: those that come, those that get another label,
-/// those that lose a parent, and those that get one in a block without support to theirs.
-pub(crate) fn unsteady(
+/// those that lose a parent and may have no other one in its block, and those that get one in a block without support to theirs.
+/// The parents of each node that loses one are read once.
+pub(crate) fn unsteady<L: Ledger>(
     alloc: Global,
     base: &Summary,
     after: &After<'_>,
     effects: &Effects,
+    steps: &mut Steps<L>,
 ) -> Result<Vec<NodeId>, Memory>
+    requires before { IsBefore after.now base.now }
     ensures once { IfOk result (λ list. IsDistinct nat_eq list.items) }
-    ensures same { IfOk result (λ list. (n : ℕ) → has list.items n ≡ has (unsteady_nodes base.now (graph_after after.now) effects.now) n) }
+    ensures same { IfOk result (λ list. AreUnsteadyBy base.now (graph_after after.now) effects.now list.items) }
+    ensures read { HasRead after.now effects.now.lost steps.old steps.new }
 {
-    let mut list = list_unsteady(alloc, base, after, effects)?;
+    let left = unkept(alloc, base, after, effects.lost(), steps)?;
+    let mut list = list_unsteady(alloc, base, after, effects, &left)?;
     sort_dedup(&mut list);
     Ok(list)
 }
