@@ -1,10 +1,10 @@
 -- The levels of a draft, one of which is done.
 use Rattle.std.proofs.Common.{◌≡◌, ℕ, ◌+◌, ◌<◌, ◌≤◌, List, Some, Bool, IsTrue, sym, ◌∙◌, ap, subst, arith, inl, inr, length}
-use Rattle.std.proofs.lemmas.Bool.{cases_lt}
+use Rattle.std.proofs.lemmas.Bool.{cases_lt, false_from_ne_true, both_ways}
 use Rattle.std.proofs.lemmas.Bool.Decides.{eqb_tells}
 use Rattle.graph_spec.specs.Graphs.{Graph}
 use Rattle.graph_spec.specs.Shapes.{shape_of}
-use Rattle.graph_spec.specs.Members.{at, Lists}
+use Rattle.graph_spec.specs.Members.{at, has, Lists}
 use Rattle.bisim_spec.specs.declared.sides.Sides.{Sides}
 use Rattle.bisim_spec.specs.SidedLevels.{affected}
 use Rattle.keyed_quotient.specs.KeyedQuotients.{KeyedQuotient, key_at}
@@ -25,9 +25,9 @@ two_levels sides ends g f d i m h = record {
   up = m.up i h;
 }
 
--- Once the nodes within one edge more are placed, all holds still.
+-- Once some of the nodes within one edge more are placed, all holds still.
 pub moving_placed : (sides : Sides) (ends : ℕ → Bool) (g : Graph) (f : List KeyedQuotient) (d d2 : List KeyedChanges) (i : ℕ) (nodes : List ℕ) → HasMovedAffected sides ends g f d
-    → ArePlaced sides g f d d2 i nodes → Lists (affected sides (shape_of g) ends (i + 1)) nodes → HasMovedAffected sides ends g f d2
+    → ArePlaced sides g f d d2 i nodes → ((n : ℕ) → IsTrue (has nodes n) → IsTrue (affected sides (shape_of g) ends (i + 1) n)) → HasMovedAffected sides ends g f d2
 moving_placed sides ends g f d d2 i nodes m p l = record {
   over = p.levels.over;
   levels = λ j h. elim (eqb_tells j (i + 1)) [
@@ -57,7 +57,8 @@ moving_placed sides ends g f d d2 i nodes m p l = record {
   ];
   far = λ j h. elim (eqb_tells j (i + 1)) [
     | inl s ↦ subst (λ j. SameFar sides ends (shape_of g) j (blocks_at f j) (blocks_shown f d2 j)) (sym s.1) (record {
-      same = λ n node off. p.blocks n (l.members n ∙ off) ∙ (subst (λ j. SameFar sides ends (shape_of g) j (blocks_at f j) (blocks_shown f d j)) s.1 (m.far j h)).same n node off;
+      same = λ n node off. p.blocks n (false_from_ne_true (has nodes n) (λ t. both_ways (affected sides (shape_of g) ends (i + 1) n) off (l n t)))
+          ∙ (subst (λ j. SameFar sides ends (shape_of g) j (blocks_at f j) (blocks_shown f d j)) s.1 (m.far j h)).same n node off;
     })
     | inr t ↦ subst (λ (x : KeyedChanges). SameFar sides ends (shape_of g) j (blocks_at f j) (blocks_as_shown (level_at f j) x)) (sym (p.others j t.1)) (m.far j h)
   ];
@@ -69,16 +70,20 @@ moving_placed sides ends g f d d2 i nodes m p l = record {
       | inr t ↦ ap (λ (x : KeyedChanges). at (labels_as_shown (level_at f j) x) b) (p.others j t.1) ∙ e
     ]
 
--- at the levels up to i the affected nodes are in the blocks of their keys
-pub record AreKeyedTo (sides : Sides) (ends : ℕ → Bool) (g : Graph) (f : List KeyedQuotient) (d : List KeyedChanges) (i : ℕ) : Type 0 where
-  pub each : (j n : ℕ) → j < i → IsTrue (affected sides (shape_of g) ends (j + 1) n) → IsKeyed sides (shape_of g) (blocks_shown f d j) (blocks_shown f d (j + 1)) (key_shown f d (j + 1)) n
+-- the nodes that are placed one level above each level: those within one edge more of the ends than the level
+abbrev pub one_more : Sides → (ℕ → Bool) → Graph → ℕ → ℕ → Bool
+one_more sides ends g j n = affected sides (shape_of g) ends (j + 1) n
 
-pub keyed_start : (sides : Sides) (ends : ℕ → Bool) (g : Graph) (f : List KeyedQuotient) (d : List KeyedChanges) → AreKeyedTo sides ends g f d 0
-keyed_start sides ends g f d = record { each = λ j n h on. absurd (omega (arith, h)) }
+-- at the levels up to i the nodes that are placed are in the blocks of their keys
+pub record AreKeyedTo (sides : Sides) (placed : ℕ → ℕ → Bool) (g : Graph) (f : List KeyedQuotient) (d : List KeyedChanges) (i : ℕ) : Type 0 where
+  pub each : (j n : ℕ) → j < i → IsTrue (placed j n) → IsKeyed sides (shape_of g) (blocks_shown f d j) (blocks_shown f d (j + 1)) (key_shown f d (j + 1)) n
 
-pub keyed_next : (sides : Sides) (ends : ℕ → Bool) (g : Graph) (f : List KeyedQuotient) (d d2 : List KeyedChanges) (i : ℕ) (nodes : List ℕ) → AreKeyedTo sides ends g f d i
-    → ArePlaced sides g f d d2 i nodes → Lists (affected sides (shape_of g) ends (i + 1)) nodes → AreKeyedTo sides ends g f d2 (i + 1)
-keyed_next sides ends g f d d2 i nodes k p l = record {
+pub keyed_start : (sides : Sides) (placed : ℕ → ℕ → Bool) (g : Graph) (f : List KeyedQuotient) (d : List KeyedChanges) → AreKeyedTo sides placed g f d 0
+keyed_start sides placed g f d = record { each = λ j n h on. absurd (omega (arith, h)) }
+
+pub keyed_next : (sides : Sides) (placed : ℕ → ℕ → Bool) (g : Graph) (f : List KeyedQuotient) (d d2 : List KeyedChanges) (i : ℕ) (nodes : List ℕ) → AreKeyedTo sides placed g f d i
+    → ArePlaced sides g f d d2 i nodes → Lists (placed i) nodes → AreKeyedTo sides placed g f d2 (i + 1)
+keyed_next sides placed g f d d2 i nodes k p l = record {
   each = λ j n h on. elim (cases_lt j i) [
     | inl below ↦
         (let same = p.others j (λ e. absurd (omega (arith, e, below))) in
@@ -88,10 +93,10 @@ keyed_next sides ends g f d d2 i nodes k p l = record {
     | inr past ↦
         (let same : j ≡ i = omega (arith, h, past) in
         subst (λ j. IsKeyed sides (shape_of g) (blocks_shown f d2 j) (blocks_shown f d2 (j + 1)) (key_shown f d2 (j + 1)) n) (sym same)
-        (p.keyed n (l.members n ∙ subst (λ j. IsTrue (affected sides (shape_of g) ends (j + 1) n)) same on)))
+        (p.keyed n (l.members n ∙ subst (λ j. IsTrue (placed j n)) same on)))
   ];
 }
 
 -- all levels are done
-pub keyed_all : (sides : Sides) (ends : ℕ → Bool) (g : Graph) (f : List KeyedQuotient) (d : List KeyedChanges) (i : ℕ) → AreKeyedTo sides ends g f d i → length f ≤ i + 1 → AreKeyedAffected sides ends g f d
+pub keyed_all : (sides : Sides) (ends : ℕ → Bool) (g : Graph) (f : List KeyedQuotient) (d : List KeyedChanges) (i : ℕ) → AreKeyedTo sides (one_more sides ends g) g f d i → length f ≤ i + 1 → AreKeyedAffected sides ends g f d
 keyed_all sides ends g f d i k all = record { each = λ j n h on. k.each j n (omega (arith, h, all)) on }

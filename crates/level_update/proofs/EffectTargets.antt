@@ -147,7 +147,7 @@ came_moved which g g2 e f d w lost added none before keyed drafted = record {
 
 -- ---- where no node needs to move
 
-none_of : {X : Type 0} (xs : List X) → nat_eq (length xs) 0 ≡ true → xs ≡ []
+pub none_of : {X : Type 0} (xs : List X) → nat_eq (length xs) 0 ≡ true → xs ≡ []
 none_of [] h = refl
 none_of (x ∷ xs) h = absurd (let e = (Decides-eqb (length (x ∷ xs)) 0).0 h in omega (arith, e))
 

@@ -9,5 +9,6 @@ pub mod LoneBlocks
 pub mod EffectLevels
 pub mod RelabelledLevels
 pub mod EffectTargets
+pub mod NearLevels
 pub mod JoinedNodes
 pub mod CostExamples

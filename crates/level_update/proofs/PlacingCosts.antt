@@ -106,3 +106,11 @@ pub spent_most : (which : Sides) (a : Pending) (ends : List ℕ) (k i before now
 spent_most which a ends k i before now within cost len m count e =
     let same : k ≡ m = omega (arith, count, e) in
     subst (λ m. now ≤ before + most_move_steps which a (has ends) m) same (total_most (affected_cost which a (has ends) k) k i before now within cost)
+
+-- within fewer edges of the ends there is no more to pay
+pub near_most : (which : Sides) (a : Pending) (ends : ℕ → Bool) (j k : ℕ) → j ≤ k → affected_cost which a ends j ≤ affected_cost which a ends k
+near_most which a ends j k within =
+    let s = shape_of (graph_after a) in
+    let more = affected_weight which s ends j k within in
+    let wider : cost a.change a.before (affected which s ends j) ≤ cost a.change a.before (affected which s ends k) = omega (arith, more) in
+    mul-le-mul_left (side_count which) wider

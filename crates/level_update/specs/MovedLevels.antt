@@ -1,7 +1,8 @@
 -- What holds of the levels of a draft while the affected nodes move between blocks.
-use Rattle.std.specs.Prelude.{◌+◌, ◌<◌, ℕ, Bool, List, IsTrue, length}
+use Rattle.std.specs.Prelude.{◌≡◌, ◌+◌, ◌<◌, ℕ, Bool, List, IsTrue, length}
 use Rattle.graph_spec.specs.Graphs.{Graph}
-use Rattle.graph_spec.specs.Shapes.{shape_of}
+use Rattle.graph_spec.specs.Shapes.{IsNode, shape_of}
+use Rattle.graph_spec.specs.Members.{at}
 use Rattle.bisim_spec.specs.declared.sides.Sides.{Sides}
 use Rattle.bisim_spec.specs.SidedLevels.{affected}
 use Rattle.keyed_quotient.specs.KeyedQuotients.{KeyedQuotient, key_at}
@@ -20,6 +21,12 @@ pub record HasMovedAffected (sides : Sides) (ends : ℕ → Bool) (g : Graph) (f
   pub up : (i : ℕ) → i + 1 < length f → LabelsGoUp (labels_shown f d i) (labels_shown f d (i + 1)) (key_shown f d (i + 1))
   pub stay : (i : ℕ) → i < length f → KeysStay (key_at (level_at f i).keys) (key_shown f d i)
   pub far : (i : ℕ) → i < length f → SameFar sides ends (shape_of g) i (blocks_at f i) (blocks_shown f d i)
+
+-- At the lowest level the nodes of both graphs have the blocks that they had. One level above level i only nodes within i edges
+-- of the ends have moved. So it is where no node gets another label.
+pub record HasMovedNear (sides : Sides) (ends : ℕ → Bool) (g g2 : Graph) (f : List KeyedQuotient) (d : List KeyedChanges) : Type 0 where
+  pub lowest : (n : ℕ) → IsNode (shape_of g) n → IsNode (shape_of g2) n → at (blocks_shown f d 0) n ≡ at (blocks_at f 0) n
+  pub far : (i : ℕ) → i + 1 < length f → SameFar sides ends (shape_of g2) i (blocks_at f (i + 1)) (blocks_shown f d (i + 1))
 
 -- above the lowest level each affected node is in the block of its key
 pub record AreKeyedAffected (sides : Sides) (ends : ℕ → Bool) (g : Graph) (f : List KeyedQuotient) (d : List KeyedChanges) : Type 0 where

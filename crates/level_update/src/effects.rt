@@ -1,19 +1,23 @@
 // What the effects of a change make of each level.
-ghost use Rattle.std.specs.Prelude.{◌≡◌, ◌+◌, ◌*◌, ◌<◌, ◌≤◌, [], ℕ, OnOk, length, sum_by};
+ghost use Rattle.std.specs.Prelude.{◌≡◌, ◌+◌, ◌*◌, ◌<◌, ◌≤◌, [], ℕ, IsTrue, OnOk, nat_eq, length, sum_by};
+ghost use Rattle.graph_spec.specs.Graphs.{is_live};
 ghost use Rattle.graph_spec.specs.Members.{has};
+ghost use Rattle.graph_spec.specs.Shapes.{shape_of};
+ghost use Rattle.bisim_spec.specs.SidedLevels.{DiffersBy};
 ghost use Rattle.graph_update.specs.PendingChanges.{graph_after};
 ghost use Rattle.graph_effects.specs.Effects.{AreEffects};
 ghost use Rattle.keyed_quotient.specs.Changes.{no_keyed_changes};
 ghost use Rattle.ak_family.specs.LevelDrafts.{changes_at, AreOver, AreSameBut, AreEmpty};
 ghost use Rattle.graph_effects.specs.StepEffects.{ends_of};
-ghost use Rattle.level_update.specs.LevelCosts.{move_cost, most_draft_steps};
-ghost use Rattle.level_update.specs.MovedLevels.{AreMoved};
+ghost use Rattle.level_update.specs.LevelCosts.{move_cost, most_move_steps, most_draft_steps};
+ghost use Rattle.level_update.specs.MovedLevels.{HasMovedAffected, HasMovedNear, AreKeyedAffected, AreMoved};
 ghost use Rattle.level_update.specs.LevelEffects.{AreLevelsBefore, AreKeyedBases, IsDraftedBelow, IsLevelRelabelled, IsLevelDrafted, AreLevelsDrafted, lone_nodes, keeps_keys};
 
 use crate::counting::{lower_edges, raise_edges};
 use crate::joining::join_nodes;
 use crate::leaving::leave_nodes;
 use crate::moving::move_affected;
+use crate::nearer::move_nearer;
 use crate::relabelling::relabel_nodes;
 use ak_family::{AkDraft, AkFamily};
 use bisim_spec::Sides;
@@ -110,6 +114,42 @@ fn keeps_keys(ends: &[NodeId], effects: &Effects) -> bool
             && effects.relabelled().is_empty())
 }
 
+// Whether no node gets another label.
+fn keeps_labels(effects: &Effects) -> bool
+    ensures { result ≡ nat_eq (length effects.now.relabelled) 0 }
+{
+    effects.relabelled().is_empty()
+}
+
+// Moves the nodes that the effects affect, once these are drafted at each level.
+fn move_nodes<L: Ledger>(
+    alloc: Global,
+    family: &AkFamily,
+    draft: &mut AkDraft,
+    sides: Sides,
+    after: &After<'_>,
+    effects: &Effects,
+    ends: &[NodeId],
+    steps: &mut Steps<L>,
+) -> Result<(), Memory>
+    requires live { (n : ℕ) → IsTrue (has ends.now n) → IsTrue (is_live (graph_after after.now) n) }
+    requires before { AreLevelsBefore after.now.before (graph_after after.now) family.now }
+    requires keyed { AreKeyedBases sides after.now.before family.now }
+    requires differs { DiffersBy sides (has ends.now) (shape_of after.now.before) (shape_of (graph_after after.now)) }
+    requires moving { HasMovedAffected sides (has ends.now) (graph_after after.now) family.now draft.old }
+    requires near { IsTrue (nat_eq (length effects.now.relabelled) 0)
+        → HasMovedNear sides (has ends.now) after.now.before (graph_after after.now) family.now draft.old }
+    ensures moving { OnOk result (HasMovedAffected sides (has ends.now) (graph_after after.now) family.now draft.new) }
+    ensures keyed { OnOk result (AreKeyedAffected sides (has ends.now) (graph_after after.now) family.now draft.new) }
+    ensures cost { (k : ℕ) → length family.now ≡ k + 1 → steps.new ≤ steps.old + most_move_steps sides after.now (has ends.now) k }
+{
+    if keeps_labels(effects) {
+        move_nearer(alloc, family, draft, sides, after, ends, steps)
+    } else {
+        move_affected(alloc, family, draft, sides, after, ends, steps)
+    }
+}
+
 /// Drafts what a change with these effects, which alters what counts at these ends, makes of a family: the effects at each
 /// level, and then the moves of the nodes that they affect. For each side that counts it takes at most `(6 * k + 4) * w`
 /// steps, where `k` is the highest level, and `w` is what the change costs at the nodes within `k` edges of an end. Where
@@ -140,6 +180,6 @@ pub(crate) fn draft_effects<L: Ledger>(
     if keeps_keys(ends, effects) {
         return Ok(());
     }
-    move_affected(alloc, family, draft, sides, after, ends, steps)?;
+    move_nodes(alloc, family, draft, sides, after, effects, ends, steps)?;
     Ok(())
 }

@@ -11,6 +11,7 @@ mod keys;
 mod leaving;
 mod level;
 mod moving;
+mod nearer;
 mod placing;
 mod relabelling;
 

@@ -7,7 +7,7 @@ use Rattle.keyed_quotient.specs.Changes.{KeyedChanges, blocks_as_shown}
 use Rattle.ak_family.specs.Families.{level_at}
 use Rattle.affected_nodes.proofs.SearchCosts.{starts}
 use Rattle.level_update.proofs.PlacingCosts.{level_most, spent_most}
-use Rattle.level_update.proofs.DraftLevels.{moving_placed, keyed_next, keyed_all}
+use Rattle.level_update.proofs.DraftLevels.{moving_placed, keyed_next, keyed_all, one_more}
 use Rattle.level_update.proofs.moving.move_affected.Goals as goal
 
 pub loop-i-preserved : goal.loop-i-preserved
@@ -24,8 +24,8 @@ loop-i-preserved g c =
     let so_far = inv.cost in
     let here = c.place_all.ensures.cost in
     record {
-      moving = moving_placed c.args.sides ends graph c.args.family.now c.loop-i.draft c.place_all.new.draft i c.within-nodes.result.now inv.moving placed listed;
-      keyed = keyed_next c.args.sides ends graph c.args.family.now c.loop-i.draft c.place_all.new.draft i c.within-nodes.result.now inv.keyed placed listed;
+      moving = moving_placed c.args.sides ends graph c.args.family.now c.loop-i.draft c.place_all.new.draft i c.within-nodes.result.now inv.moving placed (λ n h. sym (listed.members n) ∙ h);
+      keyed = keyed_next c.args.sides (one_more c.args.sides ends graph) graph c.args.family.now c.loop-i.draft c.place_all.new.draft i c.within-nodes.result.now inv.keyed placed listed;
       lowest = ap (λ (x : KeyedChanges). blocks_as_shown (level_at c.args.family.now 0) x) (placed.others 0 (λ e. absurd (omega (arith, e)))) ∙ inv.lowest;
       cost = omega (arith, most, so_far, here);
     }
