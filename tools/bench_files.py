@@ -10,7 +10,8 @@ views.
 
 Then it has files checked that are made to be slow: at twice the size a check should take twice as long. In `hub` each node of a chain of one
 label leads to one more node. In `ring` each round of refinement parts two nodes from thousands, and in `hubs` each has two more nodes to
-look at that have thousands of children.
+look at that have thousands of children. In `twins` there are no others to look at: each node of the chain has 65 more parents, and is put off
+as they are.
 """
 import os
 import pathlib
@@ -24,6 +25,7 @@ MAKE = ROOT / "tools" / "make_triples.py"
 CASES = [("dag", 200_000, 5), ("cyclic", 200_000, 5), ("deep", 200_000, 5), ("dag", 1_600_000, 2)]
 # nodes of the files that are made to be slow
 SLOW = [50_000, 100_000]
+TWINS = [8_000, 16_000]
 
 
 def run(command, output=subprocess.DEVNULL):
@@ -77,10 +79,12 @@ def measure(program, folder, kind, count, turns):
     print(f"    --check  {taken['check'][0]:>8.2f} s, {taken['check'][1]:.0f} MB", flush=True)
 
 
-def write_file(file, labels, edges, via):
-    """Writes an index file with one view, in which each node has a block of its own."""
+def write_file(file, labels, edges, via, twins={}):
+    """Writes an index file with one view, in which each node has a block of its own, but for those that are with another one."""
+    ranks = [n - sum(twin < n for twin in twins) for n in range(len(labels))]
+    ranks = [ranks[twins.get(n, n)] for n in range(len(labels))]
     lines = ["pathindex 1", f"given {len(labels)} k 0", *(f"live {label}" for label in labels), f"edges {len(edges)}"]
-    lines += [*(f"{start} {end}" for start, end in sorted(edges)), "views 1", f"view {via}", *map(str, range(len(labels)))]
+    lines += [*(f"{start} {end}" for start, end in sorted(edges)), "views 1", f"view {via}", *map(str, ranks)]
     with open(file, "w") as out:
         out.write("\n".join(lines) + "\n")
 
@@ -110,10 +114,17 @@ def write_hubs(file, count):
     write_file(file, ["a"] * count + ["h", "h"], edges, "fb")
 
 
+def write_twins(file, count):
+    """A chain, and two more nodes of one block that lead to all of it. So do 65 nodes that are alone in their blocks."""
+    tells = range(count + 2, count + 67)
+    edges = [(n, n + 1) for n in range(count - 1)] + [(start, n) for start in (count, count + 1, *tells) for n in range(count)]
+    write_file(file, ["a"] * count + ["h", "h", *(f"t{n}" for n in tells)], edges, "fb", {count + 1: count})
+
+
 def measure_slow(program, folder):
     file = os.path.join(folder, "slow")
-    for kind, write in (("hub", write_hub), ("ring", write_ring), ("hubs", write_hubs)):
-        for count in SLOW:
+    for kind, write in (("hub", write_hub), ("ring", write_ring), ("hubs", write_hubs), ("twins", write_twins)):
+        for count in TWINS if kind == "twins" else SLOW:
             write(file, count)
             taken = best_of({"check": [program, "--check", file]}, 2)["check"]
             print(f"{kind}, {count:,} nodes: --check  {taken[0]:>8.2f} s, {taken[1]:.0f} MB", flush=True)

@@ -4,7 +4,6 @@ ghost use Rattle.std.specs.List.Sorted.{IsStrictlyIncreasing};
 ghost use Rattle.graph_spec.specs.Members.{at, has};
 ghost use Rattle.key_table.specs.NumberedKeys.{AreDistinct};
 ghost use Rattle.index_check.specs.NumberedShapes.{digraph_shape};
-ghost use Rattle.graph_spec.specs.Shapes.{Shape};
 ghost use Rattle.index_check.specs.Active.{
   IsClosed,
   IsCoarse,
@@ -17,29 +16,25 @@ ghost use Rattle.index_check.specs.Active.{
   AreShared,
   renamed,
   number_in,
-  is_marked,
   is_shared,
   is_beside,
 };
 ghost use Rattle.index_check.specs.Listing.{IsListed};
 
+use crate::hubs::{put_off_hubs, take_turn};
 use crate::keys::{block_of, write_blocks};
-use crate::levels::level_both;
+use crate::levels::first_level;
 use crate::listing::{list_all, list_moved, with_rest};
 use crate::neighbour_lists::neighbours;
-use crate::part_sizes::{Sizes, is_marked, is_shared, name_groups, number_at};
+use crate::part_sizes::{Sizes, is_shared, name_groups, number_at};
 use bisim_spec::Side;
 use hash_index::HashIndex;
 use key_table::{KeyTable, sort_dedup};
 use label_graph::Digraph;
 use px_base::Memory;
 use std::alloc::Global;
-use std::mem::swap;
 
-// A node with more parents or children than this is a hub.
-const MANY: usize = 64;
-
-// How many levels are made of all nodes at first. In most graphs few nodes part later, so that the lists of blocks stay short.
+// How many levels are made of all nodes at first, at most. In most graphs few nodes part later, so that the lists of blocks stay short.
 const FIRST: u32 = 4;
 
 // Stands in a key between the blocks of parents and those of children. No block has it as its number.
@@ -265,6 +260,7 @@ fn part_once<G: Digraph>(
     let groups = group(alloc, g, block, active)?;
     let names = name_groups(alloc, sizes, block, active, &groups)?;
     let moved = moved_nodes(alloc, block, active, &groups, &names)?;
+    sizes.note_changes(block, &moved)?;
     rename(block, active, &groups, &names);
     list_moved(lists, block, &moved)?;
     let next = around(alloc, g, block, &sizes.members, &moved)?;
@@ -287,90 +283,6 @@ fn part_wider<G: Digraph>(
 {
     let wider = with_rest(alloc, lists, block, sizes, active)?;
     part_once(alloc, g, block, sizes, lists, &wider)
-}
-
-// Whether the node has many neighbours.
-fn is_hub<G: Digraph>(g: &G, n: u32) -> bool {
-    g.is_node(n) && (g.parents(n).len() > MANY || g.children(n).len() > MANY)
-}
-
-// Marks the blocks of those of the nodes that have many neighbours, and answers whether there are any.
-fn mark_hubs<G: Digraph>(g: &G, block: &[Option<u32>], sizes: &mut Sizes, nodes: &[u32]) -> bool {
-    let mut any = false;
-    for n in nodes {
-        if is_hub(g, *n) {
-            sizes.mark(block_of(block, *n), true);
-            any = true;
-        }
-    }
-    any
-}
-
-// Takes the marks off again.
-fn unmark(block: &[Option<u32>], sizes: &mut Sizes, nodes: &[u32]) {
-    for n in nodes {
-        sizes.mark(block_of(block, *n), false);
-    }
-}
-
-// Puts those of the nodes behind the others whose blocks are marked, or aren't.
-fn push_marked(
-    next: &mut Vec<u32>,
-    block: &[Option<u32>],
-    marks: &[bool],
-    on: bool,
-    nodes: &[u32],
-) -> Result<(), Memory>
-    ensures { OnOk result ((m : ℕ) → has next.new.items m
-        ≡ (has next.old.items m || (has nodes.now m && is_marked marks.now on (at block.now m)))) }
-{
-    for n in nodes {
-        if is_marked(marks, on, block_of(block, *n)) {
-            next.push(*n)?;
-        }
-    }
-    Ok(())
-}
-
-// The active nodes without those in blocks with hubs, which are put behind the later ones.
-fn put_off_hubs<G: Digraph>(
-    alloc: Global,
-    g: &G,
-    block: &[Option<u32>],
-    sizes: &mut Sizes,
-    next: Vec<u32>,
-    later: &mut Vec<u32>,
-) -> Result<Vec<u32>, Memory>
-    requires way { IsOnTheWay (digraph_shape G.Digraph g.now) block.now next.items }
-    requires later { IsClosed (digraph_shape G.Digraph g.now) later.old.items }
-    ensures way { IfOk result (λ light. IsOnTheWay (digraph_shape G.Digraph g.now) block.now light.items) }
-    ensures later { OnOk result (IsClosed (digraph_shape G.Digraph g.now) later.new.items) }
-{
-    let any = mark_hubs(g, block, sizes, &next);
-    if !any {
-        return Ok(next);
-    }
-    let mut light = Vec::new(alloc);
-    push_marked(&mut light, block, &sizes.marks, false, &next)?;
-    push_marked(later, block, &sizes.marks, true, &next)?;
-    unmark(block, sizes, &next);
-    sort_dedup(&mut light);
-    Ok(light)
-}
-
-// The nodes of the next round: the later ones, if no others are active.
-fn take_turn(light: Vec<u32>, later: &mut Vec<u32>) -> Vec<u32>
-    requires { IsStrictlyIncreasing light.items }
-    ensures rising { IsStrictlyIncreasing result.items }
-    ensures closed { (s : Shape) → IsClosed s light.items → IsClosed s later.old.items → IsClosed s result.items }
-    ensures later { (s : Shape) → IsClosed s later.old.items → IsClosed s later.new.items }
-{
-    let mut turn = light;
-    if turn.is_empty() {
-        swap(&mut turn, later);
-        sort_dedup(&mut turn);
-    }
-    turn
 }
 
 // One round, and which nodes are active in the next one.
@@ -446,20 +358,21 @@ fn all_shared(
 /// A partition that is no finer than full bisimilarity by parents and children. It is that, where no node is left that is active after as
 /// many rounds as twice the nodes and two more.
 ///
-/// The first levels are made of all nodes. Then all are active that aren't alone in their blocks; and later, of the nodes next to those that
-/// went to another block, those that aren't alone in theirs, and with them their whole block if more of it are active than not. The largest
-/// part of a block whose members are all active keeps its number, so nodes go to another block O(n log n) times together (J. Hopcroft, 1971).
-/// Expected O(n + m log m) for n node numbers and m neighbours of nodes that are active, each as often as it is. A node is active again after a
-/// round in which a neighbour went to another block; so that hubs aren't active in each round, blocks of which a hub is active are put off
-/// until no others are active.
+/// The first levels are made of all nodes, until one adds few blocks. Then all are active that aren't alone in their blocks; and later, of the
+/// nodes next to those that went to another block, those that aren't alone in theirs, and with them their whole block if more of it are active
+/// than not. The largest part of a block whose members are all active keeps its number, so nodes go to another block O(n log n) times together
+/// (J. Hopcroft, 1971). Expected O(n + m log m) for n node numbers and m neighbours of nodes that are active, each as often as it is. A node is
+/// active again after a round in which a neighbour went to another block. So that hubs aren't active in each round, blocks of which a hub is
+/// active are put off until no others are active, and left out where by their counts no round would part them.
 ///
-/// The first levels take 24 bytes a number, and a table of keys. Then it takes 8 bytes a number, 13 for each block, 20 for each number and for
-/// each time that a node goes to another block, and in a round 28 bytes and the key for each active node and 4 for each neighbour of those
-/// that go to another block. A table that grows may take twice as much.
+/// The first levels take 24 bytes a number, and a table of keys. Then it takes 8 bytes a number, 29 for each block, 20 for each number and for
+/// each time that a node goes to another block, and in a round 40 bytes and the key for each active node and 4 for each neighbour of those
+/// that go to another block. Counts take 16 bytes a number, and up to 120 for each number and each neighbour of a node that is
+/// counted. A table that grows may take twice as much.
 pub(crate) fn part_active<G: Digraph>(alloc: Global, g: &G) -> Result<Vec<Option<u32>>, Memory>
     ensures { IfOk result (λ l. IsCoarse (digraph_shape G.Digraph g.now) l.items) }
 {
-    let mut block = level_both(alloc, g, FIRST)?;
+    let mut block = first_level(alloc, g, FIRST)?;
     let mut sizes = Sizes::new(alloc, &block)?;
     let first = all_shared(alloc, g.size(), &block, &sizes.members)?;
     let mut lists = list_all(alloc, &block, g.size())?;

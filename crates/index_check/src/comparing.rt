@@ -13,8 +13,8 @@ fn value_at(values: &[Option<u32>], n: usize) -> Option<u32>
     if n < values.len() { values[n] } else { None }
 }
 
-// A number above each value.
-fn span_of(keys: &[Option<u32>]) -> usize
+/// A number above each value.
+pub(crate) fn span_of(keys: &[Option<u32>]) -> usize
     ensures { AreBelow keys.now result }
 {
     let mut span: usize = 0;

@@ -8,13 +8,16 @@ ghost use Rattle.index_check.specs.NeighbourSides.{is_neighbour};
 ghost use Rattle.index_check.specs.Refinement.{IsNextLevel, Refines};
 ghost use Rattle.index_check.specs.NumberedShapes.{digraph_shape};
 
-use crate::comparing::are_same;
+use crate::comparing::{are_same, span_of};
 use crate::neighbour_lists::label_of;
 use crate::refining::refine;
 use bisim_spec::Side;
 use label_graph::Digraph;
 use px_base::Memory;
 use std::alloc::Global;
+
+// A level adds few blocks, if there is at most one for so many node numbers.
+const FEW: u32 = 1024;
 
 /// The labels of the nodes.
 pub(crate) fn label_list<G: Digraph>(alloc: Global, g: &G) -> Result<Vec<Option<u32>>, Memory>
@@ -111,6 +114,34 @@ pub(crate) fn level_both<G: Digraph>(
     for j in 0..i {
         let next = next_both(alloc, g, &block)?;
         block = next;
+    }
+    Ok(block)
+}
+
+// Whether few blocks were added. It decides how much work is left, and never what is found.
+fn adds_few(size: u32, before: usize, after: usize) -> bool {
+    after.saturating_sub(before) <= (size / FEW) as usize
+}
+
+/// One of the first levels by parents and children: the first one that adds few blocks to those of the level below, but at most this one.
+pub(crate) fn first_level<G: Digraph>(
+    alloc: Global,
+    g: &G,
+    most: u32,
+) -> Result<Vec<Option<u32>>, Memory>
+    ensures { IfOk result (λ l. (i : ℕ) × Agrees (digraph_shape G.Digraph g.now) l.items (Both (digraph_shape G.Digraph g.now) i)) }
+{
+    let mut block = label_list(alloc, g)?;
+    let mut blocks = 0;
+    for j in 0..most {
+        let next = next_both(alloc, g, &block)?;
+        let more = span_of(&next);
+        let few = adds_few(g.size(), blocks, more);
+        block = next;
+        blocks = more;
+        if few {
+            return Ok(block);
+        }
     }
     Ok(block)
 }
