@@ -304,6 +304,7 @@ fn part_in_turn<G: Digraph>(
 {
     let next = part_wider(alloc, g, block, sizes, lists, active)?;
     let light = put_off_hubs(alloc, g, block, sizes, next, later)?;
+    sizes.counts.note_turn(&light);
     let turn = take_turn(light, later);
     Ok(turn)
 }
@@ -363,12 +364,12 @@ fn all_shared(
 /// than not. The largest part of a block whose members are all active keeps its number, so nodes go to another block O(n log n) times together
 /// (J. Hopcroft, 1971). Expected O(n + m log m) for n node numbers and m neighbours of nodes that are active, each as often as it is. A node is
 /// active again after a round in which a neighbour went to another block. So that hubs aren't active in each round, blocks of which a hub is
-/// active are put off until no others are active, and left out where by their counts no round would part them.
+/// active are put off until no others are active. Once that came 16 times, they are left out where by their counts no round would part them.
 ///
 /// The first levels take 24 bytes a number, and a table of keys. Then it takes 8 bytes a number, 29 for each block, 20 for each number and for
 /// each time that a node goes to another block, and in a round 40 bytes and the key for each active node and 4 for each neighbour of those
-/// that go to another block. Counts take 16 bytes a number, and up to 120 for each number and each neighbour of a node that is
-/// counted. A table that grows may take twice as much.
+/// that go to another block. Counts, if there are any, take 16 bytes a number, and up to 120 for each number and each neighbour of a node that
+/// is counted. A table that grows may take twice as much.
 pub(crate) fn part_active<G: Digraph>(alloc: Global, g: &G) -> Result<Vec<Option<u32>>, Memory>
     ensures { IfOk result (λ l. IsCoarse (digraph_shape G.Digraph g.now) l.items) }
 {

@@ -12,6 +12,9 @@ const PARENTS: u32 = 0;
 
 const CHILDREN: u32 = 1;
 
+// How often blocks with hubs are parted before their neighbours are counted. In most graphs that is enough, and no memory is taken.
+const TURNS: u32 = 16;
+
 /// How many neighbours the counted nodes have in each block.
 #[derive(Drop)]
 pub(crate) struct Counts {
@@ -23,6 +26,8 @@ pub(crate) struct Counts {
     prints: Vec<Option<u64>>,
     // how many neighbours the counted nodes have
     neighbours: usize,
+    // how often blocks with hubs were parted
+    turns: u32,
 }
 
 // The part of a print that tells of neighbours in a block.
@@ -46,7 +51,20 @@ impl Counts {
             counts: Vec::new(alloc),
             prints: Vec::new(alloc),
             neighbours: 0,
+            turns: 0,
         })
+    }
+
+    /// Notes a turn of nodes of blocks with hubs, which comes where no others are active.
+    pub(crate) fn note_turn(&mut self, light: &[u32]) {
+        if light.is_empty() {
+            self.turns = self.turns.saturating_add(1);
+        }
+    }
+
+    /// Whether blocks with hubs were parted so often that counts pay.
+    pub(crate) fn are_due(&self) -> bool {
+        self.turns >= TURNS
     }
 
     fn print_at(&self, n: u32) -> Option<u64> {

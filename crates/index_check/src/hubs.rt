@@ -51,7 +51,7 @@ fn compare_prints<G: Digraph>(
     Ok(())
 }
 
-// Takes the marks off blocks all members of which are active, and have the same print.
+// Takes the marks off blocks all members of which count as active.
 fn unmark_whole(block: &[Option<u32>], sizes: &mut Sizes, nodes: &[u32]) {
     for n in nodes {
         let own = block_of(block, *n);
@@ -59,6 +59,21 @@ fn unmark_whole(block: &[Option<u32>], sizes: &mut Sizes, nodes: &[u32]) {
             sizes.mark(own, false);
         }
     }
+}
+
+// Takes the marks off blocks all members of which are active, and have neighbours in the same blocks, once counts pay.
+fn unmark_alike<G: Digraph>(
+    g: &G,
+    block: &[Option<u32>],
+    sizes: &mut Sizes,
+    nodes: &[u32],
+) -> Result<(), Memory> {
+    if sizes.counts.are_due() {
+        sizes.count_active(block, nodes);
+        compare_prints(g, block, sizes, nodes)?;
+        unmark_whole(block, sizes, nodes);
+    }
+    Ok(())
 }
 
 // Takes off all marks of blocks of the nodes.
@@ -87,8 +102,8 @@ fn push_marked(
     Ok(())
 }
 
-/// The active nodes without those in blocks with hubs. These are put behind the later ones, unless all members of their block are active and
-/// have neighbours in the same blocks, by their prints: no round would part them.
+/// The active nodes without those in blocks with hubs. These are put behind the later ones. Once such blocks were parted some times, those are
+/// left out all members of which are active and have neighbours in the same blocks, by their prints: no round would part them.
 pub(crate) fn put_off_hubs<G: Digraph>(
     alloc: Global,
     g: &G,
@@ -109,9 +124,7 @@ pub(crate) fn put_off_hubs<G: Digraph>(
     }
     let mut light = Vec::new(alloc);
     push_marked(&mut light, block, &sizes.marks, false, &next)?;
-    sizes.count_active(block, &next);
-    compare_prints(g, block, sizes, &next)?;
-    unmark_whole(block, sizes, &next);
+    unmark_alike(g, block, sizes, &next)?;
     push_marked(later, block, &sizes.marks, true, &next)?;
     unmark(block, sizes, &next);
     sort_dedup(&mut light);
