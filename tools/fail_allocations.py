@@ -5,7 +5,7 @@ fail_allocations.py PROGRAM [--at-once COUNT] [--sample COUNT | --powers] -- WOR
 
 The program is run with these words, first as it is, and its allocations are counted. Then it is run once for each of them, which
 finds no memory; with --sample for so many of them, spread evenly, and with --powers for those whose number, counted from 1, is a
-power of two. Each run must end with the status 7 and a front of what the first one wrote, or just as the first one did: a table that
+power of two. Each run must end with the status 7 and a prefix of what the first one wrote, or just as the first one did: a table that
 can't grow far may grow less. --at-once says how many runs go on at a time, 4 where it isn't given. The C compiler `cc` makes the
 allocator that fails, from failing_malloc.c.
 """
@@ -67,7 +67,7 @@ def main():
         with concurrent.futures.ThreadPoolExecutor(given.at_once) as pool:
             runs = pool.map(lambda n: run(command, library, FAIL_AT=str(n)), numbers)
             failed = sum(fails_well(whole, n, *ended) for n, ended in zip(numbers, runs))
-    print(f"{count} allocations, {len(numbers)} of them failed in turn: {failed} runs ended with the status 7 and a front, the others whole")
+    print(f"{count} allocations, {len(numbers)} of them failed in turn: {failed} runs ended with the status 7 and a prefix, the others whole")
 
 
 if __name__ == "__main__":
