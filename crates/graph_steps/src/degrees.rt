@@ -25,7 +25,7 @@ fn counted_edges<L: Ledger>(graph: &Graph, u: NodeId, blank: Blank) -> usize
     ensures { result ≡ touching graph.now.graph u + one_for (edge_in graph.now.graph u u) }
 {
     // Called for its contract: edges are few.
-    let _edges = graph.edge_count();
+    let _known = graph.edge_count();
     let mut steps = Steps::<L>::new(blank);
     let parents = graph.parents(u, &mut steps);
     let children = graph.children(u, &mut steps);
@@ -167,7 +167,7 @@ fn edges_behind(graph: &Graph, prefix: &Prefix<'_>, steps: &[Step], u: NodeId) -
     ensures { result ≡ touching (after (steps_of steps.now) graph.now.graph) u }
 {
     // Called for its contract: edges are few.
-    let _edges = graph.edge_count();
+    let _known = graph.edge_count();
     let mut count = edges_left(graph, steps, u);
     for i in 0..steps.len() {
         count = count_on(graph, &prefix.prefix(i), &steps[i], steps, u, count);

@@ -96,7 +96,7 @@ fn moved(prefix: &Prefix<'_>, at: EdgeBefore, u: NodeId, v: NodeId, n: NodeId) -
     ensures there { (s : Made) → drop at.place prefix.now ≡ s ∷ drop (at.place + 1) prefix.now → result.there ≡ edge_by s u v at.there }
 {
     // Called for its contract: places are numbers of 64 bits.
-    let _len = prefix.len();
+    let _known = prefix.len();
     EdgeBefore {
         place: prefix.next_naming(at.place + 1, n),
         there: edge_by(prefix.step(at.place), u, v, at.there),

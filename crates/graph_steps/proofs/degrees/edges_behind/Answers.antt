@@ -15,8 +15,8 @@ count_on-count-requires c =
     let g = c.args.graph.now.graph in
     let few = staying_few ss i g c.args.u (is_dropped (steps_of ss)) (let t = c.loop-i-test.true in omega (arith, t)) in
     let count = c.loop-i.invariant in
-    let edges = c.edge_count-edges.ensures.count in
-    let most = c.edge_count-edges.ensures.few in
+    let edges = c.edge_count-known.ensures.count in
+    let most = c.edge_count-known.ensures.few in
     let short = c.requires.few in
     let t = c.loop-i-test.true in
     record {
@@ -52,4 +52,4 @@ returns c =
     let g = c.args.graph.now.graph in
     let past = c.loop-i-test.false in
     c.loop-i.invariant ∙ ap (λ (xs : List _). staying (after (steps_of xs) g) c.args.u (is_dropped (steps_of ss))) (all_taken ss c.loop-i.i past)
-    ∙ staying_all ss g c.args.u c.edge_count-edges.ensures.graph c.requires.can
+    ∙ staying_all ss g c.args.u c.edge_count-known.ensures.graph c.requires.can
