@@ -1,19 +1,18 @@
 -- The steps that name a node, and the first of them, instead of all.
-use Rattle.std.proofs.Common.{◌≡◌, ℕ, zero, suc, ◌+◌, ◌-◌, ◌<◌, ◌≤◌, Bool, true, false, List, [], ◌∷◌, ◌++◌, length, take, drop, get_or, refl, sym, ap, ◌∙◌, arith, inl, inr, true≢false}
+use Rattle.std.proofs.Common.{◌≡◌, ℕ, zero, suc, ◌+◌, ◌-◌, ◌<◌, ◌≤◌, Bool, false, List, [], ◌∷◌, ◌++◌, length, take, drop, get_or, refl, sym, ap, ◌∙◌, arith}
 use Rattle.std.specs.Prelude.{◌||◌, not, IsTrue, Some, min, slice_get}
 use Rattle.std.specs.List.{list_any}
-use mathlib.Core.Bool.{beq}
 use Rattle.std.proofs.Math.Seq.{drop-drop, drop-cons}
 use Rattle.std.proofs.lemmas.List.{take_all, drop-take, length-take-le, length-map}
 use Rattle.std.proofs.lemmas.List.Folds.{list_any-append}
-use Rattle.std.proofs.lemmas.Bool.{cases_Bool, or_parts, and_parts, not-true}
+use Rattle.std.proofs.lemmas.Bool.{or_parts, and_parts, not-true}
 use Rattle.graph_spec.specs.Graphs.{Graph, is_live}
 use Rattle.change_spec.specs.Steps.{Step, after}
 use Rattle.change_spec.specs.Places.{CanMakeAll}
 use Rattle.change_spec.specs.Named.{names, takes_away, is_named, is_dropped}
 use Rattle.change_spec.specs.EdgesAfter.{concerned, edge_after, edge_by}
 use Rattle.change_spec.proofs.NamedNodes.{is_added, live_after, unnamed_parent, unnamed_child}
-use Rattle.change_spec.proofs.ShownNeighbours.{unconcerned, settled}
+use Rattle.change_spec.proofs.ShownNeighbours.{unconcerned}
 use Rattle.graph_steps.specs.declared.changes.Step.{Step as Asked}
 use Rattle.graph_steps.specs.StepLists.{step_of, steps_of}
 use Rattle.graph_steps.specs.NamedSteps.{IsNextNamed}
@@ -182,25 +181,3 @@ edge_more c s n u v i j b before skips there next is = sym (
 
 pub edge_done : (c : List Step) (u v i : ℕ) (b before : Bool) → length c ≤ i → before ≡ edge_after (stretch c 0 i) u v b → before ≡ edge_after c u v b
 edge_done c u v i b before past is = is ∙ ap (λ k. edge_after k u v b) (stretch_all c 0 i (omega arith) past)
-
--- where the steps leave an edge that wasn't there as one that was, they leave each edge so
-pub edge_settled : (c : List Step) (u v : ℕ) (x y b : Bool) → x ≡ edge_after c u v false → y ≡ edge_after c u v true → beq x y ≡ true → x ≡ edge_after c u v b
-edge_settled c u v x y true off on h = same x y h ∙ on
-  where
-    same : (x y : Bool) → beq x y ≡ true → x ≡ y
-    same true true h = refl
-    same true false h = absurd (true≢false (sym h))
-    same false true h = absurd (true≢false (sym h))
-    same false false h = refl
-edge_settled c u v x y false off on h = off
-
--- else they leave it as it was
-pub edge_left : (c : List Step) (u v : ℕ) (x y b : Bool) → x ≡ edge_after c u v false → y ≡ edge_after c u v true → beq x y ≡ false → b ≡ edge_after c u v b
-edge_left c u v x y b off on h = elim (cases_Bool (concerned c u v)) [
-  | inl both ↦ absurd (true≢false (sym (itself y) ∙ ap (λ z. beq z y) (sym (off ∙ settled c u v false true both ∙ sym on)) ∙ h))
-  | inr neither ↦ sym (unconcerned c u v b neither)
-]
-  where
-    itself : (x : Bool) → beq x x ≡ true
-    itself true = refl
-    itself false = refl

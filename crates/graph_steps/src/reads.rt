@@ -144,19 +144,13 @@ pub fn edge_before(graph: &Graph, from: NodeId, to: NodeId) -> bool
 }
 
 /// Whether an edge is present once the first steps are made, none of which takes an end of it away. It takes what
-/// `edge_after` takes, and where these steps leave the edge as it was, O(min(c, p)) in a graph where the one node has c
-/// children and the other p parents; no memory.
+/// `edge_before` and `edge_after` take; no memory.
 pub fn has_edge(graph: &Graph, prefix: &Prefix<'_>, u: NodeId, v: NodeId) -> bool
     requires from { is_dropped prefix.now u ≡ false }
     requires onto { is_dropped prefix.now v ≡ false }
     ensures { result ≡ has_edge (after prefix.now graph.now.graph) u v }
 {
-    let comes = edge_after(prefix, u, v, false);
-    let stays = edge_after(prefix, u, v, true);
-    if comes == stays {
-        return comes;
-    }
-    edge_before(graph, u, v)
+    edge_after(prefix, u, v, edge_before(graph, u, v))
 }
 
 /// Whether the texts are the same.
