@@ -1,12 +1,13 @@
--- The first step that takes a node away, as a change gets one step more, and whether it stands before a place.
-use Rattle.std.proofs.Common.{◌≡◌, ℕ, zero, suc, ◌<◌, ◌≤◌, true, false, List, [], ◌∷◌, ◌++◌, length, take, refl, sym, ap, ◌∙◌, subst, arith, inl, inr, nat_lt, true≢false}
-use Rattle.std.specs.Prelude.{◌||◌, min, if◌then◌else◌}
-use Rattle.std.proofs.Math.Bool.{or-true}
-use Rattle.std.proofs.lemmas.Bool.{cases_Bool, cases_lt, lt-ltb, le-ltb}
+-- The first step that takes a node away, as a change gets one step more, and whether it stands before a place, or behind.
+use Rattle.std.proofs.Common.{◌≡◌, ℕ, zero, suc, ◌<◌, ◌≤◌, true, false, List, [], ◌∷◌, ◌++◌, length, take, drop, refl, sym, ap, ◌∙◌, subst, arith, inl, inr, nat_le, nat_lt, true≢false}
+use Rattle.std.specs.Prelude.{◌&&◌, ◌||◌, min, if◌then◌else◌}
+use Rattle.std.proofs.Math.Bool.{and-false, and-true, or-true}
+use Rattle.std.proofs.lemmas.Bool.{cases_Bool, cases_lt, lt-ltb, le-ltb, le-leb, lt-leb}
 use Rattle.change_spec.specs.Steps.{Step, node, link, unlink, drop as drop_step, relabel}
 use Rattle.change_spec.specs.Named.{names, takes_away, is_dropped}
+use Rattle.graph_steps.specs.NamedSteps.{DropsLast}
 use Rattle.graph_steps.specs.StepLinks.{nowhere, takes_at, is_drop, taken_with, IsTaken}
-use Rattle.graph_steps.proofs.LastDrops.{takes_named, take_past}
+use Rattle.graph_steps.proofs.LastDrops.{takes_named, take_past, named_there, behind_take, taken_at, taken_from}
 
 -- ---- one step more
 
@@ -98,4 +99,28 @@ taken_before c past place n few is = elim (cases_lt place past) [
     | inr e ↦ absurd (omega (arith, e, few, below))
   ])
   | inr above ↦ le-ltb place past above ∙ sym (none_taken c past n (λ k b. is.before k (omega (arith, b, above))))
+]
+
+-- ---- some step from a place on does, where no step names a node that one before it takes away
+
+none_from : (c : List Step) (from n : ℕ) → ((i : ℕ) → from ≤ i → takes_at c i n ≡ true → ⊥) → is_dropped (drop from c) n ≡ false
+none_from c from n none = elim (cases_Bool (is_dropped (drop from c) n)) [
+  | inl on ↦ (let r = taken_at c from n on in absurd (none r.0 r.1 r.2))
+  | inr off ↦ off
+]
+
+pub taken_behind : (c : List Step) (from place n : ℕ) → length c ≤ nowhere → DropsLast c → IsTaken n c place → (nat_le from place && nat_lt place (length c)) ≡ is_dropped (drop from c) n
+taken_behind c from place n few last is = elim (cases_lt place (length c)) [
+  | inl within ↦ (
+      let on : takes_at c place n ≡ true = elim is.there [ inl on ↦ on | inr e ↦ absurd (omega (arith, e, within, few)) ] in
+      ap (λ b. nat_le from place && b) (lt-ltb place (length c) within) ∙ and-true (nat_le from place)
+      ∙ elim (cases_lt place from) [
+        | inl early ↦
+            lt-leb from place early
+            ∙ sym (none_from c from n (λ i low h. true≢false (sym (named_there c i n h) ∙ behind_take c place i n last on (omega (arith, early, low)))))
+        | inr low ↦ le-leb from place low ∙ sym (taken_from c from place n low on)
+      ])
+  | inr past ↦
+      ap (λ b. nat_le from place && b) (le-ltb place (length c) past) ∙ and-false (nat_le from place)
+      ∙ sym (none_from c from n (λ i low h. (let within = takes_within c i n h in true≢false (sym h ∙ is.before i (omega (arith, within, past))))))
 ]

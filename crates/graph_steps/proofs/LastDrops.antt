@@ -1,20 +1,11 @@
--- Whether steps take a node away, by the last one that names it.
-use Rattle.std.proofs.Common.{◌≡◌, ℕ, zero, suc, ◌<◌, ◌≤◌, true, false, List, [], ◌∷◌, length, drop, get_or, refl, sym, ap, ◌∙◌, arith, inl, inr, true≢false}
+-- Steps that take a node away, and that no step behind them names it.
+use Rattle.std.proofs.Common.{◌≡◌, ℕ, zero, suc, ◌<◌, ◌≤◌, true, false, List, [], ◌∷◌, length, drop, refl, sym, ap, ◌∙◌, arith, inl, inr, true≢false}
 use Rattle.std.specs.Prelude.{◌||◌}
-use Rattle.std.proofs.lemmas.Bool.{cases_Bool, cases_lt, or_parts}
+use Rattle.std.proofs.lemmas.Bool.{cases_Bool, or_parts}
 use Rattle.change_spec.specs.Steps.{Step, node, link, unlink, drop as drop_step, relabel}
 use Rattle.change_spec.specs.Named.{names, takes_away, is_named, is_dropped}
-use Rattle.graph_steps.specs.declared.changes.Step.{Step as Asked}
-use Rattle.graph_steps.specs.StepLists.{step_of, steps_of}
 use Rattle.graph_steps.specs.NamedSteps.{DropsLast}
-use Rattle.graph_steps.specs.StepLinks.{names_at, takes_at, IsLast}
-
--- ---- the step at a place
-
-pub take_there : (ss : List Asked) (i n : ℕ) (s : Asked) → i < length ss → s ≡ get_or ss i s → takes_away (step_of s) n ≡ takes_at (steps_of ss) i n
-take_there [] i n s h e = absurd (omega (arith, h))
-take_there (x ∷ xs) zero n s h e = ap (λ (y : Asked). takes_away (step_of y) n) e
-take_there (x ∷ xs) (suc i) n s h e = take_there xs i n s (omega (arith, h)) e
+use Rattle.graph_steps.specs.StepLinks.{names_at, takes_at}
 
 pub take_past : (c : List Step) (i n : ℕ) → length c ≤ i → takes_at c i n ≡ false
 take_past [] i n h = refl
@@ -29,7 +20,7 @@ takes_named (unlink u v) n h = absurd (true≢false (sym h))
 takes_named (drop_step u) n h = h
 takes_named (relabel u t) n h = absurd (true≢false (sym h))
 
-named_there : (c : List Step) (i n : ℕ) → takes_at c i n ≡ true → names_at c i n ≡ true
+pub named_there : (c : List Step) (i n : ℕ) → takes_at c i n ≡ true → names_at c i n ≡ true
 named_there [] i n h = absurd (true≢false (sym h))
 named_there (s ∷ ss) zero n h = takes_named s n h
 named_there (s ∷ ss) (suc i) n h = named_there ss i n h
@@ -41,7 +32,7 @@ unnamed_there [] i n h = refl
 unnamed_there (s ∷ ss) zero n h = (or_parts (names n s) (is_named ss n) h).0
 unnamed_there (s ∷ ss) (suc i) n h = unnamed_there ss i n (or_parts (names n s) (is_named ss n) h).1
 
-behind_take : (c : List Step) (i k n : ℕ) → DropsLast c → takes_at c i n ≡ true → i < k → names_at c k n ≡ false
+pub behind_take : (c : List Step) (i k n : ℕ) → DropsLast c → takes_at c i n ≡ true → i < k → names_at c k n ≡ false
 behind_take [] i k n last h b = refl
 behind_take (s ∷ ss) zero zero n last h b = absurd (omega (arith, b))
 behind_take (s ∷ ss) zero (suc k) n last h b = unnamed_there ss k n (last.0 n h)
@@ -50,7 +41,7 @@ behind_take (s ∷ ss) (suc i) (suc k) n last h b = behind_take ss i k n last.1 
 
 -- ---- some step from a place on takes the node away
 
-taken_at : (c : List Step) (from n : ℕ) → is_dropped (drop from c) n ≡ true → (i : ℕ) × (from ≤ i) × (takes_at c i n ≡ true)
+pub taken_at : (c : List Step) (from n : ℕ) → is_dropped (drop from c) n ≡ true → (i : ℕ) × (from ≤ i) × (takes_at c i n ≡ true)
 taken_at [] zero n h = absurd (true≢false (sym h))
 taken_at [] (suc from) n h = absurd (true≢false (sym h))
 taken_at (s ∷ ss) zero n h = elim (cases_Bool (takes_away s n)) [
@@ -59,7 +50,7 @@ taken_at (s ∷ ss) zero n h = elim (cases_Bool (takes_away s n)) [
 ]
 taken_at (s ∷ ss) (suc from) n h = (let r = taken_at ss from n h in let low = r.1 in (suc r.0, omega (arith, low), r.2))
 
-taken_from : (c : List Step) (from i n : ℕ) → from ≤ i → takes_at c i n ≡ true → is_dropped (drop from c) n ≡ true
+pub taken_from : (c : List Step) (from i n : ℕ) → from ≤ i → takes_at c i n ≡ true → is_dropped (drop from c) n ≡ true
 taken_from [] from i n low h = absurd (true≢false (sym h))
 taken_from (s ∷ ss) zero zero n low h = ap (λ b. b || is_dropped ss n) h
 taken_from (s ∷ ss) zero (suc i) n low h = elim (cases_Bool (takes_away s n)) [
@@ -68,33 +59,3 @@ taken_from (s ∷ ss) zero (suc i) n low h = elim (cases_Bool (takes_away s n)) 
 ]
 taken_from (s ∷ ss) (suc from) zero n low h = absurd (omega (arith, low))
 taken_from (s ∷ ss) (suc from) (suc i) n low h = taken_from ss from i n (omega (arith, low)) h
-
--- ---- only the last step that names it can
-
-same_as_last : (c : List Step) (i last n : ℕ) → DropsLast c → IsLast n c last → takes_at c i n ≡ true → i ≡ last
-same_as_last c i last n ordered is h =
-    let there = is.last i (named_there c i n h) in
-    let low = there.0 in
-    elim (cases_lt i last) [
-      | inl below ↦ absurd (true≢false (sym there.1 ∙ behind_take c i last n ordered h below))
-      | inr above ↦ omega (arith, low, above)
-    ]
-
-pub last_takes : (c : List Step) (from last n : ℕ) → DropsLast c → IsLast n c last → from ≤ last → takes_at c last n ≡ is_dropped (drop from c) n
-last_takes c from last n ordered is low = elim (cases_Bool (is_dropped (drop from c) n)) [
-  | inl on ↦ (let r = taken_at c from n on in ap (λ k. takes_at c k n) (sym (same_as_last c r.0 last n ordered is r.2)) ∙ r.2 ∙ sym on)
-  | inr off ↦ elim (cases_Bool (takes_at c last n)) [
-    | inl on ↦ absurd (true≢false (sym (taken_from c from last n low on) ∙ off))
-    | inr none ↦ none ∙ sym off
-  ]
-]
-
-pub last_before : (c : List Step) (from last n : ℕ) → DropsLast c → IsLast n c last → last < from → false ≡ is_dropped (drop from c) n
-last_before c from last n ordered is early = elim (cases_Bool (is_dropped (drop from c) n)) [
-  | inl on ↦ (
-      let r = taken_at c from n on in
-      let low = r.1 in
-      let same = same_as_last c r.0 last n ordered is r.2 in
-      absurd (omega (arith, low, same, early)))
-  | inr off ↦ sym off
-]

@@ -48,7 +48,7 @@ fn edges_before(graph: &Graph, u: NodeId) -> usize
 }
 
 // Whether the step takes the node away.
-pub(crate) fn takes_away(step: &Step, n: NodeId) -> bool
+fn takes_away(step: &Step, n: NodeId) -> bool
     ensures { result ≡ takes_away (step_of step.now) n }
 {
     match step {

@@ -6,10 +6,10 @@ ghost use Rattle.smallvec.specs.SmallVec.{HasRoomFor};
 ghost use Rattle.change_spec.specs.Named.{names, is_dropped as is_gone};
 ghost use Rattle.graph_steps.specs.StepLists.{step_of, steps_of};
 ghost use Rattle.graph_steps.specs.NamedSteps.{IsNextNamed, DropsLast};
-ghost use Rattle.graph_steps.specs.StepLinks.{nowhere, takes_at, is_first, is_drop, next_of, with_next, link_at, with_link, ends_at, taken_with, ends_with, AreLinks, AreEnds, AreNoted, IsLater, IsLast, IsAhead, Notes, LeadsTo};
+ghost use Rattle.graph_steps.specs.StepLinks.{nowhere, is_first, is_drop, next_of, with_next, link_at, with_link, ends_at, taken_with, ends_with, AreLinks, AreEnds, AreNoted, IsLater, IsLast, IsAhead, Notes, LeadsTo};
 
 use crate::changes::{Step, names};
-use crate::degrees::{is_dropped, takes_away};
+use crate::degrees::is_dropped;
 use indexmap::IndexMap;
 use px_base::{Memory, NodeId};
 use smallvec::SmallVec;
@@ -349,18 +349,8 @@ pub(crate) fn next_place(
     along(links, steps, start, from, n).min(steps.len())
 }
 
-// Whether the step at a place takes the node away.
-fn takes_away_at(steps: &[Step], place: usize, n: NodeId) -> bool
-    ensures { result ≡ takes_at (steps_of steps.now) place n }
-{
-    if place < steps.len() {
-        return takes_away(&steps[place], n);
-    }
-    false
-}
-
 /// Whether a step from a place on takes the node away, where no step names a node that one before it takes away: only the
-/// last step that names the node can.
+/// first step that takes it away can.
 pub(crate) fn drops_from(ends: &NodeEnds, steps: &[Step], from: usize, n: NodeId) -> bool
     requires ends { AreEnds (steps_of steps.now) ends.now.entries }
     requires last { DropsLast (steps_of steps.now) }
@@ -370,11 +360,8 @@ pub(crate) fn drops_from(ends: &NodeEnds, steps: &[Step], from: usize, n: NodeId
     if steps.len() <= 1 {
         return is_dropped(&steps[from..], n);
     }
-    let last = noted(ends, n).last;
-    if last < from {
-        return false;
-    }
-    takes_away_at(steps, last, n)
+    let taken = noted(ends, n).taken;
+    from <= taken && taken < steps.len()
 }
 
 /// Whether a step before a place takes the node away.
