@@ -1,8 +1,9 @@
 -- The label that steps give a node.
-use Rattle.std.proofs.Common.{◌≡◌, ℕ, suc, ◌+◌, ◌<◌, ◌≤◌, true, false, List, [], ◌∷◌, ◌++◌, length, length-append, take, drop, refl, sym, ap, ◌∙◌, subst, arith, inl, inr, true≢false}
+use Rattle.std.proofs.Common.{◌≡◌, ℕ, zero, suc, ◌+◌, ◌-◌, ◌<◌, ◌≤◌, true, false, List, [], ◌∷◌, ◌++◌, length, length-append, take, drop, refl, sym, ap, ◌∙◌, subst, arith, inl, inr, true≢false}
 use Rattle.std.specs.Prelude.{Option, Some, None, is_some, option_map, slice_get, IsTrue, nat_lt, not, ◌||◌, ◌&&◌, if◌then◌else◌}
 use Rattle.std.specs.Option.{option_or}
 use Rattle.std.proofs.Math.Bool.{or-false}
+use Rattle.std.proofs.Math.Seq.{drop-drop}
 use Rattle.std.proofs.lemmas.List.{take-append-drop}
 use Rattle.std.proofs.lemmas.Bool.{and_parts, or_parts}
 use Rattle.std.proofs.lemmas.Bool.Decides.{eqb_tells, nat_tests}
@@ -62,6 +63,60 @@ relabelled_more c s n from i j low there next = sym (
     ap (λ k. relabelled k n) (stretch_more c s from i j low next.ordered there)
     ∙ relabelled_joined (stretch c from i) (s ∷ stretch c (i + 1) j) n
     ∙ ap (λ o. option_or (option_or o (relabel_by s n)) (relabelled (stretch c from i) n)) (unnamed_kept (stretch c (i + 1) j) n next.between))
+
+-- ---- the steps from the end back
+
+or_first : (a b : Option (List ℕ)) → option_or a b ≡ None → a ≡ None
+or_first None b h = refl
+or_first (Some t) b h = h
+
+some_or : (a b : Option (List ℕ)) → is_some a ≡ true → option_or a b ≡ a
+some_or None b h = absurd (true≢false (sym h))
+some_or (Some t) b h = refl
+
+none_left : (k : ℕ) (c : List Step) (n : ℕ) → relabelled c n ≡ None → relabelled (drop k c) n ≡ None
+none_left zero c n h = h
+none_left (suc k) [] n h = h
+none_left (suc k) (s ∷ ss) n h = none_left k ss n (or_first (relabelled ss n) (relabel_by s n) h)
+
+pub none_behind : (c : List Step) (n : ℕ) → relabelled (drop (length c) c) n ≡ None
+none_behind [] n = refl
+none_behind (s ∷ ss) n = none_behind ss n
+
+pub none_mapped : {X : Type 0} (f : X → List ℕ) (o : Option X) → is_some o ≡ false → option_map f o ≡ None
+none_mapped f None h = refl
+none_mapped f (Some x) h = absurd (true≢false h)
+
+pub some_mapped : {X : Type 0} (f : X → List ℕ) (o : Option X) → is_some o ≡ true → is_some (option_map f o) ≡ true
+some_mapped f None h = h
+some_mapped f (Some x) h = refl
+
+-- one step more, which gives the node none
+pub none_more : (c : List Step) (s : Step) (n i : ℕ) → drop i c ≡ s ∷ drop (i + 1) c → relabelled (drop (i + 1) c) n ≡ None → relabel_by s n ≡ None → relabelled (drop i c) n ≡ None
+none_more c s n i there none off = ap (λ k. relabelled k n) there ∙ ap (λ o. option_or o (relabel_by s n)) none ∙ off
+
+relabelled_cut : (c : List Step) (n from i : ℕ) → from ≤ i → relabelled (drop from c) n ≡ option_or (relabelled (drop i c) n) (relabelled (stretch c from i) n)
+relabelled_cut c n from i low =
+    let sum : from + (i - from) ≡ i = omega (arith, low) in
+    ap (λ k. relabelled k n) (sym (take-append-drop (i - from) (drop from c)))
+    ∙ relabelled_joined (stretch c from i) (drop (i - from) (drop from c)) n
+    ∙ ap (λ k. option_or (relabelled k n) (relabelled (stretch c from i) n)) (drop-drop (i - from) from c ∙ ap (λ k. drop k c) sum)
+
+-- one that gives it a label
+pub last_label : (c : List Step) (s : Step) (n from i : ℕ) → from ≤ i → drop i c ≡ s ∷ drop (i + 1) c → relabelled (drop (i + 1) c) n ≡ None → is_some (relabel_by s n) ≡ true
+    → relabel_by s n ≡ relabelled (drop from c) n
+last_label c s n from i low there none on = sym (
+    relabelled_cut c n from i low
+    ∙ ap (λ o. option_or o (relabelled (stretch c from i) n)) (ap (λ k. relabelled k n) there ∙ ap (λ o. option_or o (relabel_by s n)) none)
+    ∙ some_or (relabel_by s n) (relabelled (stretch c from i) n) on)
+
+-- what is found from the front, where those behind give it none
+pub relabelled_done : (c : List Step) (n from i past : ℕ) → from ≤ i → past ≤ i → relabelled (drop past c) n ≡ None → relabelled (stretch c from i) n ≡ relabelled (drop from c) n
+relabelled_done c n from i past low behind none =
+    let sum : past + (i - past) ≡ i = omega (arith, behind) in
+    let rest : relabelled (drop i c) n ≡ None =
+    ap (λ k. relabelled (drop k c) n) (sym sum) ∙ ap (λ k. relabelled k n) (sym (drop-drop (i - past) past c)) ∙ none_left (i - past) (drop past c) n none in
+    sym (relabelled_cut c n from i low ∙ ap (λ o. option_or o (relabelled (stretch c from i) n)) rest)
 
 -- ---- the label of a node that was there
 

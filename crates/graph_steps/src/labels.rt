@@ -31,15 +31,21 @@ fn relabel_by(step: &Step, n: NodeId) -> Option<&Text>
     }
 }
 
-// The label that the last of the steps from a place on gives a node by its number.
+// The label that the last of the steps from a place on gives a node by its number. Those that name the node are gone
+// through, and as many steps from the end back, where the last label may be found sooner.
 fn relabelled<'a>(prefix: &Prefix<'a>, from: usize, n: NodeId) -> Option<&'a Text>
     requires { from ≤ length prefix.now }
     ensures { option_map (λ t. t.now) result ≡ relabelled (drop from prefix.now) n }
 {
-    let len = prefix.len();
     let mut given = None;
     let mut i = prefix.next_naming(from, n);
-    while i < len {
+    let mut past = prefix.len();
+    while i < past {
+        past -= 1;
+        let last = relabel_by(prefix.step(past), n);
+        if last.is_some() {
+            return last;
+        }
         given = relabel_by(prefix.step(i), n).or(given);
         i = prefix.next_naming(i + 1, n);
     }
@@ -68,7 +74,8 @@ fn added_label<'a>(prefix: &Prefix<'a>, earlier: usize, n: NodeId) -> Option<&'a
 }
 
 /// The label that the first steps give a node which is live behind them, the last one where several do. Expected O(1), and
-/// the steps that name the node are gone through; no memory.
+/// the steps that name the node are gone through, or those behind the last that gives it a label, where these are fewer; no
+/// memory.
 pub fn label_after<'a>(graph: &Graph, prefix: &Prefix<'a>, n: NodeId) -> Option<&'a Text>
     requires can { CanMakeAll prefix.now graph.now.graph }
     requires live { IsTrue (is_live (after prefix.now graph.now.graph) n) }
@@ -92,7 +99,7 @@ fn label_before(graph: &Graph, u: NodeId, text: &Text) -> bool
 }
 
 /// Whether a node which is live once the first steps are made has that label then. Expected O(b) for a text of b bytes, and
-/// the steps that name the node are gone through; no memory.
+/// what `label_after` takes; no memory.
 pub fn has_label(graph: &Graph, prefix: &Prefix<'_>, u: NodeId, text: &Text) -> bool
     requires can { CanMakeAll prefix.now graph.now.graph }
     requires live { IsTrue (is_live (after prefix.now graph.now.graph) u) }
