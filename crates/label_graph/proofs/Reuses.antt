@@ -3,11 +3,13 @@ use Rattle.std.proofs.Common.{◌≡◌, ◌≢◌, false, ℕ, zero, suc, ◌-�
 use Rattle.std.specs.Prelude.{slice_get, is_some}
 use Rattle.std.proofs.lemmas.List.{get_or-set_same, get_or-set_other, length-map}
 use Rattle.std.proofs.lemmas.Option.{get_or_from_slice_get}
+use Rattle.bisim_spec.specs.declared.sides.Side.{Side}
+use Rattle.bisim_spec.specs.declared.sides.Side.TheVariants.{Parents, Children}
 use Rattle.label_graph.specs.declared.segment.Segment.{Segment}
 use Rattle.label_graph.specs.declared.node.Row.{Row}
 use Rattle.label_graph.specs.Nodes.{labels_of, number_at, IsKept, IsGoneBeside, children_of, parents_of, child_reserved, parent_reserved, SameNodes}
 use Rattle.label_graph.specs.Segments.{items_in, LiesWithin, IsApart, Writes, Exchanges}
-use Rattle.label_graph.specs.NodeRows.{segments_of, AreHeld, AreRows, row_labels, node_in, nodes_in}
+use Rattle.label_graph.specs.NodeRows.{list_of, with_list, segments_of, AreHeld, AreRows, row_labels, node_in, nodes_in}
 use Rattle.label_graph.proofs.RowLemmas.{twice, twice-is, turned, children-list, parents-list, labels-by, set-label, rows-written}
 
 -- a list by its number
@@ -41,16 +43,31 @@ parent_reserved-by cells [] w = refl
 parent_reserved-by cells (r ∷ rs) zero = refl
 parent_reserved-by cells (r ∷ rs) (suc w) = parent_reserved-by cells rs w
 
--- a list of a node is written
-pub set-children : (rows : List Row) (n : ℕ) (r : Row) (t : Segment) → r ≡ get_or rows n r → segments_of (set rows n (record r { children = t })) ≡ set (segments_of rows) (twice n) t
-set-children [] n r t is = refl
-set-children (y ∷ ys) zero r t is = ap (λ x. t ∷ x.parents ∷ segments_of ys) is
-set-children (y ∷ ys) (suc n) r t is = ap (λ l. y.children ∷ y.parents ∷ l) (set-children ys n r t is)
+-- the number of a node's list
+abbrev pub list_place : Side → ℕ → ℕ
+list_place Children n = twice n
+list_place Parents n = suc (twice n)
 
-pub set-parents : (rows : List Row) (n : ℕ) (r : Row) (t : Segment) → r ≡ get_or rows n r → segments_of (set rows n (record r { parents = t })) ≡ set (segments_of rows) (suc (twice n)) t
-set-parents [] n r t is = refl
-set-parents (y ∷ ys) zero r t is = ap (λ x. x.children ∷ t ∷ segments_of ys) is
-set-parents (y ∷ ys) (suc n) r t is = ap (λ l. y.children ∷ y.parents ∷ l) (set-parents ys n r t is)
+-- it is written
+list-written : (side : Side) (rows : List Row) (n : ℕ) (r : Row) (t : Segment) → r ≡ get_or rows n r
+    → segments_of (set rows n (with_list side r t)) ≡ set (segments_of rows) (list_place side n) t
+list-written Children [] n r t is = refl
+list-written Children (y ∷ ys) zero r t is = ap (λ x. t ∷ x.parents ∷ segments_of ys) is
+list-written Children (y ∷ ys) (suc n) r t is = ap (λ l. y.children ∷ y.parents ∷ l) (list-written Children ys n r t is)
+list-written Parents [] n r t is = refl
+list-written Parents (y ∷ ys) zero r t is = ap (λ x. x.children ∷ t ∷ segments_of ys) is
+list-written Parents (y ∷ ys) (suc n) r t is = ap (λ l. y.children ∷ y.parents ∷ l) (list-written Parents ys n r t is)
+
+label-same : (side : Side) (r : Row) (t : Segment) → (with_list side r t).label ≡ r.label
+label-same Children r t = refl
+label-same Parents r t = refl
+
+module _ (side : Side) (rows : List Row) (n : ℕ) (r new : Row) (t : Segment) (is : r ≡ get_or rows n r) (e : new ≡ with_list side r t) where
+  set-list : segments_of (set rows n new) ≡ set (segments_of rows) (list_place side n) t
+  set-list = ap (λ x. segments_of (set rows n x)) e ∙ list-written side rows n r t is
+
+  set-list-label : row_labels (set rows n new) ≡ row_labels rows
+  set-list-label = set-label rows n r new is (ap (λ x. x.label) e ∙ label-same side r t)
 
 list-count : (rows : List Row) → length (segments_of rows) ≡ twice (length rows)
 list-count [] = refl
@@ -157,12 +174,24 @@ module _ (cells more : List ℕ) (rows new : List Row) (k l : ℕ) (t q : Segmen
     parent_reserves = λ w live. omega (arith, room-kept (suc (twice w)) (gone w live).1, parent_reserved-by cells rows w, parent_reserved-by more new w);
   }
 
--- the lists of one node
-pub at-child : (rows : List Row) (n : ℕ) (r : Row) → n < length rows → r ≡ get_or rows n r → list_at rows (twice n) ≡ r.children
-at-child rows n r below is = get_or_from_slice_get (segments_of rows) (twice n) r.children nowhere (children-list rows n r below ∙ ap (λ x. Some x.children) (sym is))
+-- a list of one node
+pub list-is : (side : Side) (rows : List Row) (n : ℕ) (r : Row) → n < length rows → r ≡ get_or rows n r → list_at rows (list_place side n) ≡ list_of side r
+list-is Children rows n r below is = get_or_from_slice_get (segments_of rows) (twice n) r.children nowhere (children-list rows n r below ∙ ap (λ x. Some x.children) (sym is))
+list-is Parents rows n r below is = get_or_from_slice_get (segments_of rows) (suc (twice n)) r.parents nowhere (parents-list rows n r below ∙ ap (λ x. Some x.parents) (sym is))
 
-pub at-parent : (rows : List Row) (n : ℕ) (r : Row) → n < length rows → r ≡ get_or rows n r → list_at rows (suc (twice n)) ≡ r.parents
-at-parent rows n r below is = get_or_from_slice_get (segments_of rows) (suc (twice n)) r.parents nowhere (parents-list rows n r below ∙ ap (λ x. Some x.parents) (sym is))
+pub list-within : (cells : List ℕ) (side : Side) (rows : List Row) (n : ℕ) (r : Row) → n < length rows → r ≡ get_or rows n r → AreHeld cells rows → LiesWithin (length cells) (list_of side r)
+list-within cells side rows n r below is h = subst (LiesWithin (length cells)) (list-is side rows n r below is) (within-at cells rows h (list_place side n))
+
+-- other nodes have other lists
+other-place : (side own : Side) (u g : ℕ) → u ≢ g → list_place own u ≢ list_place side g
+other-place Children Children u g ne e = (let same : twice u ≡ twice g = e in ne (omega (arith, same, twice-is u, twice-is g)))
+other-place Children Parents u g ne e = (let odd : suc (twice u) ≡ twice g = e in absurd (omega (arith, odd, twice-is u, twice-is g)))
+other-place Parents Children u g ne e = (let odd : twice u ≡ suc (twice g) = e in absurd (omega (arith, odd, twice-is u, twice-is g)))
+other-place Parents Parents u g ne e = (let same : suc (twice u) ≡ suc (twice g) = e in ne (omega (arith, same, twice-is u, twice-is g)))
+
+place-below : (side : Side) (rows : List Row) (n : ℕ) → n < length rows → list_place side n < length (segments_of rows)
+place-below Children rows n l = (let below : twice n < length (segments_of rows) = omega (arith, l, list-count rows, twice-is n, twice-is (length rows)) in below)
+place-below Parents rows n l = (let below : suc (twice n) < length (segments_of rows) = omega (arith, l, list-count rows, twice-is n, twice-is (length rows)) in below)
 
 nodes-same : (cells more : List ℕ) (rows : List Row) → ((i : ℕ) → items_in more (list_at rows i) ≡ items_in cells (list_at rows i)) → nodes_in more rows ≡ nodes_in cells rows
 nodes-same cells more [] same i = []
@@ -190,12 +219,9 @@ module _ (cells more : List ℕ) (rows : List Row) (k : ℕ) (s : Segment) (is :
   pub nodes-noted : nodes_in more rows ≡ nodes_in cells rows
   nodes-noted = nodes-same cells more rows items-noted
 
--- a node that has no place left, and a gone one
-module _ (cells : List ℕ) (rows : List Row) (u g : ℕ) (a b : Row) (below : u < length rows) (is_a : a ≡ get_or rows u a) (is_b : b ≡ get_or rows g b)
-    {shown : ℕ} (gone : IsGoneBeside shown (nodes_in cells rows) u g) (o : AreRows cells rows shown) where
-  h : AreHeld cells rows
-  h = o.held
-
+-- a list that has no place left, and that of a gone node
+module _ (cells : List ℕ) (side : Side) (rows : List Row) (u g : ℕ) (a b : Row) (s m : Segment) (below : u < length rows) (is_a : a ≡ get_or rows u a) (is_b : b ≡ get_or rows g b)
+    (is_s : s ≡ list_of side a) (is_m : m ≡ list_of side b) {shown : ℕ} (gone : IsGoneBeside shown (nodes_in cells rows) u g) (o : AreRows cells rows shown) where
   given : g < length rows
   given = omega (arith, gone.given, o.within)
 
@@ -203,93 +229,51 @@ module _ (cells : List ℕ) (rows : List Row) (u g : ℕ) (a b : Row) (below : u
   not-gone w kept e =
       absurd (true≢false (sym (kept (omega (arith, e, gone.given))) ∙ ap (λ n. is_some (number_at (labels_of shown (nodes_in cells rows)) n)) e ∙ ap is_some gone.gone))
 
-  even-apart : twice u ≢ twice g
-  even-apart e = gone.other (omega (arith, e, twice-is u, twice-is g))
+  places-apart : list_place side u ≢ list_place side g
+  places-apart = other-place side side u g (λ e. gone.other (sym e))
 
-  odd-apart : suc (twice u) ≢ suc (twice g)
-  odd-apart e = gone.other (omega (arith, e, twice-is u, twice-is g))
+  first-list : list_at rows (list_place side u) ≡ s
+  first-list = list-is side rows u a below is_a ∙ sym is_s
 
-  pub children-within : LiesWithin (length cells) a.children
-  children-within = subst (LiesWithin (length cells)) (at-child rows u a below is_a) (within-at cells rows h (twice u))
+  second-list : list_at rows (list_place side g) ≡ m
+  second-list = list-is side rows g b given is_b ∙ sym is_m
 
-  pub gone-children-within : LiesWithin (length cells) b.children
-  gone-children-within = subst (LiesWithin (length cells)) (at-child rows g b given is_b) (within-at cells rows h (twice g))
+  pub list-fits : LiesWithin (length cells) s
+  list-fits = subst (LiesWithin (length cells)) first-list (within-at cells rows o.held (list_place side u))
 
-  pub children-apart : IsApart a.children b.children
-  children-apart =
-      subst (λ s. IsApart s b.children) (at-child rows u a below is_a)
-      (subst (IsApart (list_at rows (twice u))) (at-child rows g b given is_b) (apart-at cells rows h (twice u) (twice g) even-apart))
+  pub room-fits : LiesWithin (length cells) m
+  room-fits = subst (LiesWithin (length cells)) second-list (within-at cells rows o.held (list_place side g))
 
-  pub parents-within : LiesWithin (length cells) a.parents
-  parents-within = subst (LiesWithin (length cells)) (at-parent rows u a below is_a) (within-at cells rows h (suc (twice u)))
-
-  pub gone-parents-within : LiesWithin (length cells) b.parents
-  gone-parents-within = subst (LiesWithin (length cells)) (at-parent rows g b given is_b) (within-at cells rows h (suc (twice g)))
-
-  pub parents-apart : IsApart a.parents b.parents
-  parents-apart =
-      subst (λ s. IsApart s b.parents) (at-parent rows u a below is_a)
-      (subst (IsApart (list_at rows (suc (twice u)))) (at-parent rows g b given is_b) (apart-at cells rows h (suc (twice u)) (suc (twice g)) odd-apart))
-
-  even-below : (n : ℕ) → n < length rows → twice n < length (segments_of rows)
-  even-below n l = omega (arith, l, list-count rows, twice-is n, twice-is (length rows))
-
-  odd-below : (n : ℕ) → n < length rows → suc (twice n) < length (segments_of rows)
-  odd-below n l = omega (arith, l, list-count rows, twice-is n, twice-is (length rows))
+  pub lists-apart : IsApart s m
+  lists-apart = subst (λ l. IsApart l m) first-list (subst (IsApart (list_at rows (list_place side u))) second-list (apart-at cells rows o.held (list_place side u) (list_place side g) places-apart))
 
   -- the rows as they are written, of u and of g
-  module _ (more : List ℕ) (t q : Segment) (x y : Row) (is_x : x ≡ get_or rows u x) where
-    module _ (is_y : y ≡ get_or (set rows u (record x { children = t })) g y) (e : Exchanges cells more a.children b.children t q) where
-      abbrev new_children : List Row
-      new_children = set (set rows u (record x { children = t })) g (record y { children = q })
+  module _ (more : List ℕ) (t q : Segment) (x y new_x new_y : Row) (is_x : x ≡ get_or rows u x) (is_y : y ≡ get_or (set rows u new_x) g y)
+      (set_x : new_x ≡ with_list side x t) (set_y : new_y ≡ with_list side y q) (e : Exchanges cells more s m t q) where
+    abbrev new_rows : List Row
+    new_rows = set (set rows u new_x) g new_y
 
-      children-are : segments_of new_children ≡ set (set (segments_of rows) (twice u) t) (twice g) q
-      children-are = set-children (set rows u (record x { children = t })) g y q is_y ∙ ap (λ l. set l (twice g) q) (set-children rows u x t is_x)
+    lists-are : segments_of new_rows ≡ set (set (segments_of rows) (list_place side u) t) (list_place side g) q
+    lists-are = set-list side (set rows u new_x) g y new_y q is_y set_y ∙ ap (λ l. set l (list_place side g) q) (set-list side rows u x new_x t is_x set_x)
 
-      children-exchange : Exchanges cells more (list_at rows (twice u)) (list_at rows (twice g)) t q
-      children-exchange =
-          subst (λ s. Exchanges cells more s (list_at rows (twice g)) t q) (sym (at-child rows u a below is_a))
-          (subst (λ s. Exchanges cells more a.children s t q) (sym (at-child rows g b given is_b)) e)
+    lists-exchange : Exchanges cells more (list_at rows (list_place side u)) (list_at rows (list_place side g)) t q
+    lists-exchange = subst (λ l. Exchanges cells more l (list_at rows (list_place side g)) t q) (sym first-list) (subst (λ l. Exchanges cells more s l t q) (sym second-list) e)
 
-      labels-children : row_labels new_children ≡ row_labels rows
-      labels-children = set-label (set rows u (record x { children = t })) g y (record y { children = q }) is_y refl ∙ set-label rows u x (record x { children = t }) is_x refl
+    labels-are : row_labels new_rows ≡ row_labels rows
+    labels-are = set-list-label side (set rows u new_x) g y new_y q is_y set_y ∙ set-list-label side rows u x new_x t is_x set_x
 
-      size-children : length new_children ≡ length rows
-      size-children = length-set (set rows u (record x { children = t })) g (record y { children = q }) ∙ length-set rows u (record x { children = t })
+    size-is : length new_rows ≡ length rows
+    size-is = length-set (set rows u new_x) g new_y ∙ length-set rows u new_x
 
-      pub held-children : AreRows more new_children shown
-      held-children = rows-written cells more rows new_children shown o size-children labels-children (held-exchanged cells more rows new_children (twice u) (twice g) t q even-apart (even-below u below) (even-below g given) children-are children-exchange h)
+    pub held-lists : AreRows more new_rows shown
+    held-lists = rows-written cells more rows new_rows shown o size-is labels-are
+        (held-exchanged cells more rows new_rows (list_place side u) (list_place side g) t q places-apart (place-below side rows u below) (place-below side rows g given) lists-are lists-exchange o.held)
 
-      pub same-children : SameNodes shown (nodes_in cells rows) (nodes_in more new_children)
-      same-children = same-exchanged cells more rows new_children (twice u) (twice g) t q even-apart (even-below u below) (even-below g given) children-are children-exchange h
-          shown size-children labels-children
-          (λ w live. ((λ f. not-gone w live (omega (arith, f, twice-is w, twice-is g))), (λ f. absurd (omega (arith, f, twice-is w, twice-is g)))))
-
-    module _ (is_y : y ≡ get_or (set rows u (record x { parents = t })) g y) (e : Exchanges cells more a.parents b.parents t q) where
-      abbrev new_parents : List Row
-      new_parents = set (set rows u (record x { parents = t })) g (record y { parents = q })
-
-      parents-are : segments_of new_parents ≡ set (set (segments_of rows) (suc (twice u)) t) (suc (twice g)) q
-      parents-are = set-parents (set rows u (record x { parents = t })) g y q is_y ∙ ap (λ l. set l (suc (twice g)) q) (set-parents rows u x t is_x)
-
-      parents-exchange : Exchanges cells more (list_at rows (suc (twice u))) (list_at rows (suc (twice g))) t q
-      parents-exchange =
-          subst (λ s. Exchanges cells more s (list_at rows (suc (twice g))) t q) (sym (at-parent rows u a below is_a))
-          (subst (λ s. Exchanges cells more a.parents s t q) (sym (at-parent rows g b given is_b)) e)
-
-      labels-parents : row_labels new_parents ≡ row_labels rows
-      labels-parents = set-label (set rows u (record x { parents = t })) g y (record y { parents = q }) is_y refl ∙ set-label rows u x (record x { parents = t }) is_x refl
-
-      size-parents : length new_parents ≡ length rows
-      size-parents = length-set (set rows u (record x { parents = t })) g (record y { parents = q }) ∙ length-set rows u (record x { parents = t })
-
-      pub held-parents : AreRows more new_parents shown
-      held-parents = rows-written cells more rows new_parents shown o size-parents labels-parents (held-exchanged cells more rows new_parents (suc (twice u)) (suc (twice g)) t q odd-apart (odd-below u below) (odd-below g given) parents-are parents-exchange h)
-
-      pub same-parents : SameNodes shown (nodes_in cells rows) (nodes_in more new_parents)
-      same-parents = same-exchanged cells more rows new_parents (suc (twice u)) (suc (twice g)) t q odd-apart (odd-below u below) (odd-below g given) parents-are parents-exchange h
-          shown size-parents labels-parents
-          (λ w live. ((λ f. absurd (omega (arith, f, twice-is w, twice-is g))), (λ f. not-gone w live (omega (arith, f, twice-is w, twice-is g)))))
+    pub same-lists : SameNodes shown (nodes_in cells rows) (nodes_in more new_rows)
+    same-lists =
+        same-exchanged cells more rows new_rows (list_place side u) (list_place side g) t q places-apart (place-below side rows u below) (place-below side rows g given) lists-are lists-exchange o.held
+        shown size-is labels-are
+        (λ w live. (other-place side Children w g (not-gone w live), other-place side Parents w g (not-gone w live)))
 
 pub no-number : (o : Option ℕ) → is_some o ≡ false → o ≡ None
 no-number None e = refl

@@ -1,9 +1,20 @@
 -- The rows of the nodes, and their lists among the cells.
 use Rattle.std.specs.Prelude.{◌≡◌, ◌≢◌, ◌≤◌, ℕ, List, [], ◌∷◌, Option, None, Some, length, map, slice_get}
+use Rattle.bisim_spec.specs.declared.sides.Side.{Side}
+use Rattle.bisim_spec.specs.declared.sides.Side.TheVariants.{Parents, Children}
 use Rattle.label_graph.specs.declared.segment.Segment.{Segment}
 use Rattle.label_graph.specs.declared.node.Row.{Row}
 use Rattle.label_graph.specs.Nodes.{Node, NeighbourList, number_at}
 use Rattle.label_graph.specs.Segments.{items_in, LiesWithin, IsApart}
+
+-- a node's list on that side
+abbrev pub list_of : Side → Row → Segment
+list_of Parents r = r.parents
+list_of Children r = r.children
+
+abbrev pub with_list : Side → Row → Segment → Row
+with_list Parents r s = record r { parents = s }
+with_list Children r s = record r { children = s }
 
 -- all lists, each node's children and then its parents
 abbrev pub segments_of : List Row → List Segment

@@ -3,21 +3,25 @@ ghost use Rattle.std.specs.Prelude.{◌≡◌, length};
 ghost use Rattle.label_graph.specs.Segments.{items_in, LiesWithin, Writes};
 
 use crate::segment::{Segment, is_short, more_reserved, spare};
+use bisim_spec::Side;
 use px_base::NodeId;
 use std::marker::Model;
 
 /// How many sizes of room there are: the powers of two that fit 32 bits.
 const SIZES: usize = 32;
 
+/// How many there are of children and of parents together.
+const PLACES: usize = 2 * SIZES;
+
 /// What stands for no node.
 const NOBODY: NodeId = u32::MAX;
 
-/// For each size of room the gone node whose list got it last. The first cell of that list has the number of the node that
-/// got such room before, and so on, so that these lists take no memory. Nothing is promised of a number that is found: the
-/// caller checks what it leads to.
+/// For each size of room, of children and of parents, the gone node whose list got it last. The first cell of that list
+/// has the number of the node that got such room before, and so on, so that these lists take no memory. Nothing is
+/// promised of a number that is found: the caller checks what it leads to.
 #[derive(Drop)]
 pub(crate) struct GoneLists {
-    firsts: [NodeId; SIZES],
+    firsts: [NodeId; PLACES],
 }
 
 impl Model for GoneLists {
@@ -32,20 +36,20 @@ impl GoneLists {
     /// No node.
     pub(crate) fn new() -> GoneLists {
         GoneLists {
-            firsts: [NOBODY; SIZES],
+            firsts: [NOBODY; PLACES],
         }
     }
 
     /// The first gone node with the room that a list wants where no more than that many numbers fit.
-    pub(crate) fn first_for(&self, list: &Segment, taken: usize) -> NodeId {
+    pub(crate) fn first_for(&self, list: &Segment, side: Side, taken: usize) -> NodeId {
         if spare(list) > taken {
             return NOBODY;
         }
-        self.first(more_reserved(list.reserved))
+        self.first(side, more_reserved(list.reserved))
     }
 
     /// Puts a gone node in front, by a list of its that has no numbers, where that takes cells.
-    pub(crate) fn offer(&mut self, cells: &mut Vec<u32>, list: &Segment, n: NodeId)
+    pub(crate) fn offer(&mut self, cells: &mut Vec<u32>, list: &Segment, side: Side, n: NodeId)
         requires { LiesWithin (length cells.old.items) list.now }
         ensures writes { Writes cells.old.items cells.new.items list.now list.now }
         ensures items { items_in cells.new.items list.now ≡ items_in cells.old.items list.now }
@@ -54,33 +58,34 @@ impl GoneLists {
             return;
         }
         let reserved = list.reserved as usize;
-        cells[list.first as usize] = self.first(reserved);
-        self.set_first(reserved, n);
+        cells[list.first as usize] = self.first(side, reserved);
+        self.set_first(side, reserved, n);
     }
 
     /// Takes the first node out, whose list this is.
-    pub(crate) fn withdraw(&mut self, cells: &[u32], list: &Segment) {
+    pub(crate) fn withdraw(&mut self, cells: &[u32], list: &Segment, side: Side) {
         let next = match cells.get(list.first as usize) {
             Some(next) => *next,
             None => NOBODY,
         };
-        self.set_first(list.reserved as usize, next);
+        self.set_first(side, list.reserved as usize, next);
     }
 
-    fn first(&self, reserved: usize) -> NodeId {
-        match self.firsts.get(place_of(reserved)) {
+    fn first(&self, side: Side, reserved: usize) -> NodeId {
+        match self.firsts.get(place_of(side, reserved)) {
             Some(first) => *first,
             None => NOBODY,
         }
     }
 
-    fn set_first(&mut self, reserved: usize, n: NodeId) {
-        if let Some(first) = self.firsts.get_mut(place_of(reserved)) {
+    fn set_first(&mut self, side: Side, reserved: usize, n: NodeId) {
+        if let Some(first) = self.firsts.get_mut(place_of(side, reserved)) {
             *first = n;
         }
     }
 }
 
-fn place_of(reserved: usize) -> usize {
-    reserved.trailing_zeros() as usize
+fn place_of(side: Side, reserved: usize) -> usize {
+    let begin = if side == Side::Parents { SIZES } else { 0 };
+    begin + reserved.trailing_zeros() as usize
 }

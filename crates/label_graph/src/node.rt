@@ -3,9 +3,11 @@ ghost use Rattle.std.specs.Prelude.{◌≡◌, ◌<◌, ◌≤◌, ◌+◌, ◌=
 ghost use Rattle.std.specs.List.{IsDistinct};
 ghost use Rattle.graph_spec.specs.Members.{has};
 ghost use Rattle.label_graph.specs.Nodes.{labels_of, number_at, children_of, parents_of, Mirrors, IsKept, SameNodes, HasReserved, KeepsReserved, UsesReserved, IsGoneBeside, LacksEdge};
+ghost use Rattle.label_graph.specs.NodeRows.{list_of, with_list};
 
 use crate::gone::GoneLists;
 use crate::segment::{EMPTY, Segment, exchange, is_last, items, make_place, push, take_out};
+use bisim_spec::Side;
 use px_base::{Memory, NodeId};
 use std::alloc::Global;
 use std::marker::Model;
@@ -17,6 +19,29 @@ pub(crate) struct Row {
     pub(crate) children: Segment,
     pub(crate) label: Option<u32>,
     pub(crate) parents: Segment,
+}
+
+impl Row {
+    // The list on that side.
+    #[inline(always)]
+    fn list(&self, side: Side) -> Segment
+        ensures { result ≡ list_of side self.now }
+    {
+        match side {
+            Side::Parents => self.parents,
+            Side::Children => self.children,
+        }
+    }
+
+    #[inline(always)]
+    fn set_list(&mut self, side: Side, list: Segment)
+        ensures { self.new ≡ with_list side self.old list }
+    {
+        match side {
+            Side::Parents => self.parents = list,
+            Side::Children => self.children = list,
+        }
+    }
 }
 
 /// A row for a node to come.
@@ -36,8 +61,7 @@ pub(crate) struct Nodes {
     rows: Vec<Row>,
     shown: usize,
     cells: Vec<u32>,
-    gone_children: GoneLists,
-    gone_parents: GoneLists,
+    gone: GoneLists,
 }
 
 impl Drop for Nodes {
@@ -47,8 +71,7 @@ impl Drop for Nodes {
             rows,
             shown: _,
             cells,
-            gone_children: _,
-            gone_parents: _,
+            gone: _,
         } = self;
         drop(rows);
         drop(cells);
@@ -140,8 +163,7 @@ impl Nodes {
             rows: Vec::new(alloc),
             shown: 0,
             cells: Vec::new(alloc),
-            gone_children: GoneLists::new(),
-            gone_parents: GoneLists::new(),
+            gone: GoneLists::new(),
         }
     }
 
@@ -189,8 +211,8 @@ impl Nodes {
         ensures shown { self.new.shown ≡ self.old.shown }
         ensures reserved { OnOk result (HasReserved self.new.nodes u v (from + 1) (onto + 1)) }
     {
-        self.reuse_children(u, from);
-        self.reuse_parents(v, onto);
+        self.reuse(u, Side::Children, from);
+        self.reuse(v, Side::Parents, onto);
         self.reserve_behind(u, v, from, onto)?;
         Ok(())
     }
@@ -254,8 +276,8 @@ impl Nodes {
         ensures parents { (w : ℕ) → parents_of self.new.nodes w ≡ parents_of self.old.nodes w }
     {
         self.write_label(n, None);
-        self.offer_children(n);
-        self.offer_parents(n);
+        self.offer(n, Side::Children);
+        self.offer(n, Side::Parents);
     }
 
     /// Writes the number of a node's label, or none, which leaves the node gone and the room of its lists with it.
@@ -273,24 +295,15 @@ impl Nodes {
 
 // Room of gone nodes, and its use.
 impl Nodes {
-    // Puts the room of a gone node's children in front of the others.
-    fn offer_children(&mut self, n: NodeId)
+    // Puts the room of a gone node's list in front of the others.
+    fn offer(&mut self, n: NodeId, side: Side)
         ensures { self.new ≡ self.old }
     {
         let Some(row) = self.rows.get(n as usize) else {
             return;
         };
-        self.gone_children.offer(&mut self.cells, &row.children, n);
-    }
-
-    // The same for its parents.
-    fn offer_parents(&mut self, n: NodeId)
-        ensures { self.new ≡ self.old }
-    {
-        let Some(row) = self.rows.get(n as usize) else {
-            return;
-        };
-        self.gone_parents.offer(&mut self.cells, &row.parents, n);
+        let list = row.list(side);
+        self.gone.offer(&mut self.cells, &list, side, n);
     }
 
     // The node g itself, if it is gone and another than u.
@@ -304,39 +317,21 @@ impl Nodes {
         Some(g)
     }
 
-    // Moves the children of a node, where no more than that many fit beside them, to the room of a gone node's.
-    fn reuse_children(&mut self, u: NodeId, taken: usize)
+    // Moves a list of a node, where no more than that many numbers fit beside its own, to the room of a gone node's.
+    fn reuse(&mut self, u: NodeId, side: Side, taken: usize)
         requires { u < length self.old.nodes }
         ensures same { SameNodes self.old.shown self.old.nodes self.new.nodes }
         ensures shown { self.new.shown ≡ self.old.shown }
     {
-        let mut list = self.rows[u as usize].children;
-        let Some(g) = self.gone_beside(u, self.gone_children.first_for(&list, taken)) else {
+        let mut list = self.rows[u as usize].list(side);
+        let Some(g) = self.gone_beside(u, self.gone.first_for(&list, side, taken)) else {
             return;
         };
-        let mut room = self.rows[g as usize].children;
-        self.gone_children.withdraw(&self.cells, &room);
+        let mut room = self.rows[g as usize].list(side);
+        self.gone.withdraw(&self.cells, &room, side);
         exchange(&mut self.cells, &mut list, &mut room);
-        self.rows[u as usize].children = list;
-        self.rows[g as usize].children = room;
-        self.offer_children(g);
-    }
-
-    // The same for its parents.
-    fn reuse_parents(&mut self, u: NodeId, taken: usize)
-        requires { u < length self.old.nodes }
-        ensures same { SameNodes self.old.shown self.old.nodes self.new.nodes }
-        ensures shown { self.new.shown ≡ self.old.shown }
-    {
-        let mut list = self.rows[u as usize].parents;
-        let Some(g) = self.gone_beside(u, self.gone_parents.first_for(&list, taken)) else {
-            return;
-        };
-        let mut room = self.rows[g as usize].parents;
-        self.gone_parents.withdraw(&self.cells, &room);
-        exchange(&mut self.cells, &mut list, &mut room);
-        self.rows[u as usize].parents = list;
-        self.rows[g as usize].parents = room;
-        self.offer_parents(g);
+        self.rows[u as usize].set_list(side, list);
+        self.rows[g as usize].set_list(side, room);
+        self.offer(g, side);
     }
 }

@@ -1,7 +1,7 @@
-use Rattle.std.proofs.Common.{◌≡◌, ◌∙◌, ◌<◌, ap, arith, length, get_or}
-use Rattle.label_graph.proofs.RowLemmas.{twice, child-within}
-use Rattle.label_graph.proofs.Reuses.{at-child, nodes-noted}
-use Rattle.label_graph.proofs.node.Nodes.offer_children.Goals as goal
+use Rattle.std.proofs.Common.{◌≡◌, ◌∙◌, ◌<◌, sym, subst, ap, arith, length, get_or}
+use Rattle.label_graph.specs.Segments.{LiesWithin}
+use Rattle.label_graph.proofs.Reuses.{list_place, list-is, list-within, nodes-noted}
+use Rattle.label_graph.proofs.node.Nodes.offer.Goals as goal
 
 pub offer-requires : goal.offer-requires
 offer-requires c =
@@ -9,7 +9,7 @@ offer-requires c =
     let r = c.in-Some.row.now in
     let below : c.args.n < length s.rows.items = omega (arith, c.in-Some.ensures.lookup.3.0, ap length c.deref.ensures.value) in
     let is : r ≡ get_or s.rows.items c.args.n r = c.in-Some.ensures.lookup.1 ∙ ap (λ l. get_or l c.args.n r) c.deref.ensures.value in
-    child-within s.cells.items s.rows.items c.args.n r below is c.self.invariant.held
+    subst (LiesWithin (length s.cells.items)) (sym c.list-list.ensures) (list-within s.cells.items c.args.side s.rows.items c.args.n r below is c.self.invariant.held)
 
 pub returns : goal.returns
 returns c =
@@ -18,5 +18,6 @@ returns c =
     let below : c.args.n < length s.rows.items = omega (arith, c.in-Some.ensures.lookup.3.0, ap length c.deref.ensures.value) in
     let is : r ≡ get_or s.rows.items c.args.n r = c.in-Some.ensures.lookup.1 ∙ ap (λ l. get_or l c.args.n r) c.deref.ensures.value in
     ap (λ l. record { nodes = l; shown = s.shown })
-    (nodes-noted s.cells.items c.offer.new.cells.items s.rows.items (twice c.args.n) r.children (at-child s.rows.items c.args.n r below is) c.offer.ensures.writes c.offer.ensures.items c.self.invariant.held)
+    (nodes-noted s.cells.items c.offer.new.cells.items s.rows.items (list_place c.args.side c.args.n) c.list-list.result
+    (list-is c.args.side s.rows.items c.args.n r below is ∙ sym c.list-list.ensures) c.offer.ensures.writes c.offer.ensures.items c.self.invariant.held)
     ∙ c.self.view_is
