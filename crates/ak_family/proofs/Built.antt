@@ -9,8 +9,8 @@ use Rattle.bisim_spec.specs.Bisimilarity.{SameLabel}
 use Rattle.graph_spec.specs.Members.{at}
 use Rattle.bisim_spec.specs.Partitions.{Agrees}
 use Rattle.bisim_spec.specs.IndexGraphs.{ViewFits}
-use Rattle.bisim_levels.specs.Keys.{IsKey}
-use Rattle.bisim_levels.specs.Refinement.{AreNumbered, AreNumberedBy}
+use Rattle.bisim_spec.specs.NodeKeys.{IsKey}
+use Rattle.bisim_levels.specs.Numbering.{AreNumbered, AreNumberedBy}
 use Rattle.bisim_levels.specs.NeighbourSides.{no_neighbours}
 use Rattle.bisim_spec.specs.declared.sides.Sides.{Sides}
 use Rattle.bisim_spec.specs.SidedLevels.{AtLevel}

@@ -17,7 +17,7 @@ use Rattle.bisim_spec.specs.declared.sides.Side.{Side}
 use Rattle.bisim_spec.specs.declared.sides.Side.TheVariants as side
 use Rattle.bisim_spec.specs.declared.sides.Sides.TheVariants as sides
 use Rattle.bisim_spec.specs.SidedLevels.{counts, beside}
-use Rattle.bisim_levels.specs.Keys.{IsKey}
+use Rattle.bisim_spec.specs.NodeKeys.{IsKey}
 use Rattle.bisim_levels.specs.SidedKeys.{mark, IsSidedKey}
 use Rattle.keyed_quotient.specs.KeyedQuotients.{KeyedQuotient, key_at, HasKey, AreKeyed}
 use Rattle.ak_family.specs.Families.{AreLabelKeys, AreNeighbourKeys}

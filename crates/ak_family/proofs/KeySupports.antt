@@ -10,7 +10,7 @@ use Rattle.bisim_spec.proofs.Bisimilar.{none_or_some}
 use Rattle.label_graph.specs.GraphViews.{label_number}
 use Rattle.block_partition.proofs.PutNumbers.{same_number}
 use Rattle.bisim_levels.specs.NeighbourSides.{no_neighbours}
-use Rattle.bisim_levels.specs.Refinement.{AreNumbered, AreNumberedBy}
+use Rattle.bisim_levels.specs.Numbering.{AreNumbered, AreNumberedBy}
 use Rattle.bisim_spec.specs.declared.sides.Sides.{Sides}
 use Rattle.bisim_levels.specs.SidedKeys.{IsAround, IsSidedKey}
 use Rattle.level_spec.proofs.SupportedKeys.{keyed_by_supports}

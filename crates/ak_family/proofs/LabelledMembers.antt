@@ -7,8 +7,8 @@ use Rattle.label_graph.specs.GraphViews.{label_number}
 use Rattle.graph_spec.specs.Members.{at}
 use Rattle.bisim_spec.proofs.Bisimilar.{none_or_some, is_some_at}
 use Rattle.bisim_levels.specs.NeighbourSides.{no_neighbours}
-use Rattle.bisim_levels.specs.Keys.{IsKey}
-use Rattle.bisim_levels.specs.Refinement.{AreNumbered, AreNumberedBy, AreBlocksBelow}
+use Rattle.bisim_spec.specs.NodeKeys.{IsKey}
+use Rattle.bisim_levels.specs.Numbering.{AreNumbered, AreNumberedBy, AreBlocksBelow}
 use Rattle.bisim_levels.specs.SidedKeys.{IsKeyBy}
 use Rattle.ak_family.specs.BlockLabels.{BlocksHaveListedLabels}
 

@@ -8,7 +8,7 @@ use Rattle.graph_spec.specs.Shapes.{shape_of}
 use Rattle.graph_spec.specs.Members.{at}
 use Rattle.label_graph.specs.GraphViews.{label_number}
 use Rattle.bisim_levels.specs.NeighbourSides.{no_neighbours}
-use Rattle.bisim_levels.specs.Refinement.{AreNumbered, AreNumberedBy}
+use Rattle.bisim_levels.specs.Numbering.{AreNumbered, AreNumberedBy}
 use Rattle.bisim_spec.specs.IndexGraphs.{support_at}
 use Rattle.quotient.specs.Quotients.{Quotient}
 use Rattle.keyed_quotient.specs.KeyedQuotients.{KeyedQuotient, no_level, key_at, AreKeyed}

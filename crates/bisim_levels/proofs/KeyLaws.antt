@@ -1,8 +1,8 @@
 -- What keys say of their nodes.
 use Rattle.std.proofs.Common.{◌≡◌, ℕ, List, ◌∷◌, Option, Some, sym, ◌∙◌, ap}
 use Rattle.graph_spec.specs.Members.{has}
-use Rattle.bisim_levels.proofs.RisingLists.{rising_unique}
-use Rattle.bisim_levels.proofs.WrittenKeys.{parts_same}
+use Rattle.bisim_spec.proofs.RisingLists.{rising_unique}
+use Rattle.bisim_spec.proofs.WrittenKeys.{parts_same}
 use Rattle.bisim_levels.specs.SidedKeys.{IsKeyBy, StayBy}
 
 module _ (own : ℕ → Option ℕ) (Around : ℕ → ℕ → Type 0) (u v : ℕ) where

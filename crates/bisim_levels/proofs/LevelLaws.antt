@@ -8,7 +8,7 @@ use Rattle.label_graph.specs.GraphViews.{label_number}
 use Rattle.bisim_spec.specs.Bisimilarity.{SameLabel}
 use Rattle.bisim_spec.specs.Partitions.{Agrees}
 use Rattle.bisim_levels.specs.NeighbourSides.{no_neighbours}
-use Rattle.bisim_levels.specs.Refinement.{Share, Refines}
+use Rattle.bisim_spec.specs.Refinement.{Share, Refines}
 use Rattle.bisim_spec.proofs.Bisimilar.{some_of}
 use Rattle.bisim_levels.proofs.LabelledNodes.{label_at, node_number, number_node}
 

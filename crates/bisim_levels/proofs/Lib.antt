@@ -1,5 +1,3 @@
-pub mod RisingLists
-pub mod WrittenKeys
 pub mod WrittenSides
 pub mod KeyLaws
 pub mod SideMarks

@@ -7,10 +7,11 @@ use Rattle.key_table.specs.NumberedKeys.{AreDistinct, Interns}
 use Rattle.graph_spec.specs.Members.{at}
 use Rattle.bisim_spec.proofs.Bisimilar.{some_of, none_or_some, is_some_at}
 use Rattle.bisim_spec.proofs.Together.{block_below}
-use Rattle.bisim_levels.specs.Keys.{IsKey}
-use Rattle.bisim_levels.specs.Refinement.{Refines, AreNumbered, AreNumberedBy, AreBlocksBelow, NumbersBy}
+use Rattle.bisim_spec.specs.NodeKeys.{IsKey}
+use Rattle.bisim_spec.specs.Refinement.{Refines}
+use Rattle.bisim_levels.specs.Numbering.{AreNumbered, AreNumberedBy, AreBlocksBelow, NumbersBy}
 use Rattle.bisim_levels.specs.SidedKeys.{IsKeyBy, RefinesBy}
-use Rattle.bisim_levels.proofs.WrittenKeys.{together_from_key, key_from_together}
+use Rattle.bisim_spec.proofs.WrittenKeys.{together_from_key, key_from_together}
 use Rattle.bisim_levels.proofs.KeyLaws.{stay_from_key, key_from_stay}
 
 -- the nodes below n are numbered

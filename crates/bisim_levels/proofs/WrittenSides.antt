@@ -12,7 +12,7 @@ use Rattle.bisim_spec.specs.declared.sides.Side.TheVariants as side
 use Rattle.bisim_spec.specs.declared.sides.Sides.{Sides}
 use Rattle.bisim_spec.specs.declared.sides.Sides.TheVariants as sides
 use Rattle.bisim_spec.specs.SidedLevels.{counts, beside}
-use Rattle.bisim_levels.specs.Keys.{IsSetOf, IsWritten}
+use Rattle.bisim_spec.specs.NodeKeys.{IsSetOf, IsWritten}
 use Rattle.bisim_levels.specs.SidedKeys.{side_mark, marked, on_side, ListNeighbours, IsListed, IsWrittenBy, IsAround, IsKeyBy}
 
 -- a key of parents alone

@@ -1,4 +1,3 @@
 pub mod NeighbourSides
-pub mod Keys
-pub mod Refinement
+pub mod Numbering
 pub mod SidedKeys

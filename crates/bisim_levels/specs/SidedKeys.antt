@@ -9,7 +9,7 @@ use Rattle.bisim_spec.specs.declared.sides.Side.TheVariants as side
 use Rattle.bisim_spec.specs.declared.sides.Sides.{Sides}
 use Rattle.bisim_spec.specs.declared.sides.Sides.TheVariants as sides
 use Rattle.bisim_spec.specs.SidedLevels.{counts, beside}
-use Rattle.bisim_levels.specs.Refinement.{Share}
+use Rattle.bisim_spec.specs.Refinement.{Share}
 
 -- the number for a block of neighbours on this side, where both sides count
 abbrev pub side_mark : Side → ℕ → ℕ

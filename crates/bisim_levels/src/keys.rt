@@ -2,7 +2,7 @@
 ghost use Rattle.std.specs.Prelude.{◌≡◌, ◌++◌, ◌∷◌, [], ℕ, Option, filter_map, option_map, option_to_list, IfOk, OnOk, IfSome, Some};
 ghost use Rattle.graph_spec.specs.Members.{at};
 ghost use Rattle.bisim_spec.specs.declared.sides.Sides.TheVariants as sided;
-ghost use Rattle.bisim_levels.specs.Keys.{Gives, IsWritten};
+ghost use Rattle.bisim_spec.specs.NodeKeys.{Gives, IsWritten};
 ghost use Rattle.bisim_levels.specs.SidedKeys.{side_mark, marked, on_side, IsWrittenBy};
 
 use bisim_spec::{Side, Sides};

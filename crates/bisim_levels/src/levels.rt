@@ -6,8 +6,8 @@ ghost use Rattle.key_table.specs.NumberedKeys.{AreDistinct};
 ghost use Rattle.bisim_spec.specs.Bisimilarity.{SameLabel};
 ghost use Rattle.bisim_spec.specs.Partitions.{Agrees};
 ghost use Rattle.bisim_levels.specs.NeighbourSides.{no_neighbours};
-ghost use Rattle.bisim_levels.specs.Keys.{IsKey};
-ghost use Rattle.bisim_levels.specs.Refinement.{AreNumbered, AreBlocksBelow, NumbersBy};
+ghost use Rattle.bisim_spec.specs.NodeKeys.{IsKey};
+ghost use Rattle.bisim_levels.specs.Numbering.{AreNumbered, AreBlocksBelow, NumbersBy};
 
 use crate::recent_keys::RecentKeys;
 use crate::refining::Level;

@@ -3,7 +3,7 @@ ghost use Rattle.std.specs.Prelude.{◌≡◌, [], ℕ, List, IfOk, IsTrue, Some
 ghost use Rattle.graph_spec.specs.Members.{at};
 ghost use Rattle.key_table.specs.NumberedKeys.{AreDistinct, Interns};
 ghost use Rattle.bisim_spec.specs.declared.sides.Sides.TheVariants as sided;
-ghost use Rattle.bisim_levels.specs.Keys.{IsWritten};
+ghost use Rattle.bisim_spec.specs.NodeKeys.{IsWritten};
 ghost use Rattle.bisim_levels.specs.SidedKeys.{on_side, IsWrittenBy};
 
 use crate::keys::{block_of, write_both_key, write_key};

@@ -7,8 +7,9 @@ ghost use Rattle.key_table.specs.NumberedKeys.{AreDistinct, Interns};
 ghost use Rattle.graph_spec.specs.Members.{at};
 ghost use Rattle.bisim_spec.specs.Partitions.{IsPartition};
 ghost use Rattle.bisim_spec.specs.SidedLevels.{AtLevel};
-ghost use Rattle.bisim_levels.specs.Keys.{IsWritten};
-ghost use Rattle.bisim_levels.specs.Refinement.{AreNumberedBy, AreBlocksBelow, NumbersBy, IsNextLevel};
+ghost use Rattle.bisim_spec.specs.NodeKeys.{IsWritten};
+ghost use Rattle.bisim_spec.specs.Refinement.{IsNextLevel};
+ghost use Rattle.bisim_levels.specs.Numbering.{AreNumberedBy, AreBlocksBelow, NumbersBy};
 ghost use Rattle.bisim_levels.specs.SidedKeys.{on_side, IsWrittenBy, IsSidedKey};
 
 use crate::keys::{block_of, single_block};

@@ -5,6 +5,8 @@ pub mod BisimilarTests
 pub mod Settled
 pub mod Together
 pub mod Keys
+pub mod RisingLists
+pub mod WrittenKeys
 pub mod Stable
 pub mod MergeableBlocks
 pub mod GrowingSets

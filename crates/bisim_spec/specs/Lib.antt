@@ -13,3 +13,5 @@ pub mod MinimalIndex
 pub mod Fits
 pub mod NodeEdges
 pub mod SideEdges
+pub mod NodeKeys
+pub mod Refinement

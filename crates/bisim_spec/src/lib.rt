@@ -5,6 +5,7 @@
 //! - `Settled`: each level is an equivalence within the one below, and from the number of nodes on all levels are one.
 //! - `Keys`: if a partition agrees with a level, nodes are bisimilar one level up exactly if their own blocks and their parents' blocks are
 //!   the same.
+//! - `RisingLists`, `WrittenKeys`: two rising lists with the same numbers are one; nodes with one key stay together when a partition is refined.
 //! - `Stable`: a stable partition lies within each level; full bisimilarity is stable, and no two of its blocks can be merged.
 //! - `MergeableBlocks`: two blocks of a stable partition can be merged exactly if they have one label and, counted as one, the same parent
 //!   blocks.

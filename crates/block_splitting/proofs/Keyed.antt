@@ -12,7 +12,7 @@ use Rattle.bisim_spec.specs.declared.sides.Side.{Side}
 use Rattle.bisim_spec.specs.declared.sides.Side.TheVariants.{Parents, Children}
 use Rattle.bisim_levels.specs.NeighbourSides.{is_neighbour}
 use Rattle.bisim_levels.proofs.LabelledNodes.{neighbour_block, node_number, number_node}
-use Rattle.bisim_levels.proofs.WrittenKeys.{key_from_together}
+use Rattle.bisim_spec.proofs.WrittenKeys.{key_from_together}
 use Rattle.block_partition.specs.LabelledPartitions.{Partition, IsBlock}
 use Rattle.block_splitting.specs.Splits.{IsNeighbour}
 use Rattle.block_splitting.specs.Groups.{AreReady, AreGrouped, NeighbourKey}

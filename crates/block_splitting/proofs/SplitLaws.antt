@@ -8,9 +8,9 @@ use Rattle.graph_spec.specs.Members.{has, at}
 use Rattle.bisim_spec.specs.Partitions.{Together, IsPartition}
 use Rattle.bisim_spec.specs.declared.sides.Side.{Side}
 use Rattle.bisim_levels.specs.NeighbourSides.{is_neighbour}
-use Rattle.bisim_levels.specs.Refinement.{StayTogether}
+use Rattle.bisim_spec.specs.Refinement.{StayTogether}
 use Rattle.bisim_levels.proofs.LabelledNodes.{neighbour_block}
-use Rattle.bisim_levels.proofs.WrittenKeys.{together_from_key, key_from_together}
+use Rattle.bisim_spec.proofs.WrittenKeys.{together_from_key, key_from_together}
 use Rattle.block_partition.specs.LabelledPartitions.{Partition, IsBlock, block_count}
 use Rattle.block_splitting.specs.Groups.{AreGrouped, NeighbourKey}
 use Rattle.block_splitting.specs.Moved.{AreParted}

@@ -6,7 +6,7 @@ use Rattle.label_graph.specs.GraphViews.{label_number}
 use Rattle.key_table.specs.NumberedKeys.{AreDistinct, Interns}
 use Rattle.bisim_spec.specs.declared.sides.Side.{Side}
 use Rattle.bisim_levels.specs.NeighbourSides.{is_neighbour}
-use Rattle.bisim_levels.specs.Keys.{IsKey}
+use Rattle.bisim_spec.specs.NodeKeys.{IsKey}
 
 -- the numbers that are seen are nodes with blocks, below a size
 pub record AreReady (g : Graph) (block : List (Option ℕ)) (seen : ℕ → Bool) (size : ℕ) : Type 0 where

@@ -17,11 +17,12 @@ use Rattle.bisim_spec.proofs.Bisimilar.{some_of, is_some_at, bis_sym, label_node
 use Rattle.bisim_spec.specs.declared.sides.Side.{Side}
 use Rattle.bisim_spec.specs.declared.sides.Side.TheVariants.{Parents, Children}
 use Rattle.bisim_levels.specs.NeighbourSides.{is_neighbour}
-use Rattle.bisim_levels.specs.Keys.{IsKey, IsWritten}
-use Rattle.bisim_levels.specs.Refinement.{Share, StayTogether, AreBlocksBelow}
+use Rattle.bisim_spec.specs.NodeKeys.{IsKey, IsWritten}
+use Rattle.bisim_spec.specs.Refinement.{Share, StayTogether}
+use Rattle.bisim_levels.specs.Numbering.{AreBlocksBelow}
 use Rattle.bisim_levels.proofs.NumberedNodes.{distinct_none, interned_at, interned_stays}
 use Rattle.bisim_levels.proofs.LabelledNodes.{label_at, node_number, number_node}
-use Rattle.bisim_levels.proofs.WrittenKeys.{key_of, key_from_together, together_from_key}
+use Rattle.bisim_spec.proofs.WrittenKeys.{key_of, key_from_together, together_from_key}
 use Rattle.block_partition.specs.LabelledPartitions.{Partition}
 use Rattle.block_partition.specs.FilledTables.{HaveLabels, SameBlocks}
 use Rattle.block_splitting.specs.Chosen.{HasFirst}

@@ -14,7 +14,7 @@ use Rattle.block_splitting.specs.Chosen.{HasFirst}
 use Rattle.block_splitting.specs.Splits.{AreLabelled, AreInhabited}
 use Rattle.block_partition.specs.FilledTables.{HaveLabels, SameBlocks}
 use Rattle.graph_spec.specs.Shapes.{shape_of}
-use Rattle.bisim_levels.specs.Refinement.{AreNumbered, AreBlocksBelow}
+use Rattle.bisim_levels.specs.Numbering.{AreNumbered, AreBlocksBelow}
 use Rattle.bisim_levels.proofs.LabelledNodes.{node_number}
 
 pub nodes_below : (g : Graph) → IsGraph g → (block block2 : List (Option ℕ)) (size : ℕ) → block2 ≡ block → IsPartition (shape_of g) block → size ≡ length g.allocated

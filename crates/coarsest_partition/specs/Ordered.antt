@@ -10,7 +10,7 @@ use Rattle.bisim_spec.specs.Bisimilarity.{Bisim}
 use Rattle.bisim_spec.specs.Partitions.{Together}
 use Rattle.bisim_spec.specs.declared.sides.Side.TheVariants.{Parents}
 use Rattle.bisim_levels.specs.NeighbourSides.{is_neighbour}
-use Rattle.bisim_levels.specs.Keys.{IsKey}
+use Rattle.bisim_spec.specs.NodeKeys.{IsKey}
 use Rattle.block_splitting.specs.Splits.{IsNeighbour}
 
 -- The nodes that have a number: with a node its parents have one; the number is that of the node's key, its label and

@@ -5,7 +5,7 @@ ghost use Rattle.graph_spec.specs.Graphs.{IsGraph};
 ghost use Rattle.graph_spec.specs.Members.{at};
 ghost use Rattle.label_graph.specs.GraphViews.{label_number};
 ghost use Rattle.key_table.specs.NumberedKeys.{AreDistinct, Interns};
-ghost use Rattle.bisim_levels.specs.Keys.{IsWritten};
+ghost use Rattle.bisim_spec.specs.NodeKeys.{IsWritten};
 ghost use Rattle.coarsest_partition.specs.Ordered.{IsOrdered, IsReady};
 
 use bisim_levels::{block_of, single_block, write_key};

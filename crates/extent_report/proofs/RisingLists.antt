@@ -13,7 +13,7 @@ use Rattle.std.proofs.lemmas.Grind.{flat_map-append}
 use Rattle.std.proofs.lemmas.Map.Keys.{sorted_from_strictly_increasing}
 use Rattle.graph_spec.specs.Members.{has}
 use Rattle.graph_spec.proofs.MemberLaws.{or_false, has_cases, has_head, has_tail}
-use Rattle.key_table.proofs.RisingSets.{below_rest}
+use Rattle.bisim_spec.proofs.RisingLists.{below_rest}
 use Rattle.bisim_spec.specs.Below.{count_below}
 use Rattle.bisim_spec.proofs.BelowLaws.{bit_of}
 use Rattle.extent_report.specs.ListedBlocks.{texts_below}

@@ -10,11 +10,11 @@ use Rattle.key_table.specs.NumberedKeys.{AreDistinct, Interns}
 use Rattle.graph_spec.specs.Members.{at, has, Lists}
 use Rattle.graph_spec.proofs.MemberLaws.{has_push}
 use Rattle.bisim_spec.specs.declared.sides.Side.TheVariants.{Parents, Children}
-use Rattle.index_check.specs.Keys.{IsWritten}
+use Rattle.bisim_spec.specs.NodeKeys.{IsWritten}
 use Rattle.index_check.specs.NeighbourSides.{is_neighbour}
 use Rattle.index_check.specs.Active.{number_in, between, AreAlike, IsGroup, TakesGroup, AreGrouped, renamed, renamed_at, AreMoved, AreRenamed}
 use Rattle.index_check.proofs.NumberedNodes.{interned_at, interned_stays}
-use Rattle.index_check.proofs.WrittenKeys.{key_of, key_from_together}
+use Rattle.bisim_spec.proofs.WrittenKeys.{key_of, key_from_together}
 
 -- nodes that are alike have one group
 pub same_group : (edge : ℕ → ℕ → Bool) (block : List (Option ℕ)) (table : List (List ℕ)) (u v k l : ℕ) → AreDistinct table → AreAlike edge block u v → IsGroup edge block table u k

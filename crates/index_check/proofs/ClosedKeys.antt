@@ -5,7 +5,7 @@ use Rattle.std.proofs.lemmas.Bool.{or_cases, or_left, or_right, and_parts, and_f
 use Rattle.std.proofs.lemmas.Bool.Decides.{Decides-eqb}
 use Rattle.graph_spec.specs.Members.{at, has, Lists}
 use Rattle.bisim_spec.proofs.Bisimilar.{is_some_at, some_of}
-use Rattle.index_check.specs.Keys.{IsKey, IsWritten}
+use Rattle.bisim_spec.specs.NodeKeys.{IsKey, IsWritten}
 use Rattle.index_check.specs.ClosedParents.{is_closed_parent}
 
 pub closed_parent : (block : List (Option ℕ)) (edge : ℕ → ℕ → Bool) (p n : ℕ) → IsTrue (edge p n) → IsTrue (is_closed_parent block edge p n)

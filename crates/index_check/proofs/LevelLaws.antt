@@ -13,7 +13,7 @@ use Rattle.bisim_spec.proofs.Stable.{next_stable_both, stable_both_full}
 use Rattle.bisim_spec.specs.declared.sides.Side.TheVariants.{Parents, Children}
 use Rattle.index_check.specs.NeighbourSides.{is_neighbour}
 use Rattle.index_check.specs.NumberedShapes.{shape_by_number}
-use Rattle.index_check.specs.Refinement.{Refines}
+use Rattle.bisim_spec.specs.Refinement.{Refines}
 use Rattle.index_check.specs.ComparedLists.{Determines, AreSame}
 
 -- what is refined covers the same nodes

@@ -1,5 +1,3 @@
-pub mod RisingLists
-pub mod WrittenKeys
 pub mod NumberedNodes
 pub mod NeighbourBlocks
 pub mod OuterKeys

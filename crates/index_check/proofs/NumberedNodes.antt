@@ -7,9 +7,10 @@ use Rattle.key_table.specs.NumberedKeys.{AreDistinct, Interns}
 use Rattle.graph_spec.specs.Members.{at}
 use Rattle.bisim_spec.proofs.Bisimilar.{some_of, none_or_some, is_some_at}
 use Rattle.bisim_spec.proofs.Together.{block_below}
-use Rattle.index_check.specs.Keys.{IsKey}
-use Rattle.index_check.specs.Refinement.{Refines, AreNumbered, Numbers}
-use Rattle.index_check.proofs.WrittenKeys.{together_from_key, key_from_together}
+use Rattle.bisim_spec.specs.NodeKeys.{IsKey}
+use Rattle.bisim_spec.specs.Refinement.{Refines}
+use Rattle.index_check.specs.Numbering.{AreNumbered, Numbers}
+use Rattle.bisim_spec.proofs.WrittenKeys.{together_from_key, key_from_together}
 
 -- the nodes below n are numbered
 pub record NumberedBelow (own : ℕ → Option ℕ) (base : List (Option ℕ)) (neighbour_of : ℕ → ℕ → Bool) (n : ℕ) (keys : List (List ℕ)) (next : List (Option ℕ)) : Type 0 where

@@ -6,15 +6,16 @@ use Rattle.graph_spec.specs.Members.{at, is_this, has, Lists}
 use Rattle.bisim_spec.specs.Partitions.{Together}
 use Rattle.bisim_spec.specs.Tests.{together, same_block}
 use Rattle.bisim_spec.proofs.Bisimilar.{is_some_at}
-use Rattle.index_check.specs.Keys.{IsKey, IsWritten}
+use Rattle.bisim_spec.specs.NodeKeys.{IsKey, IsWritten}
 use Rattle.bisim_spec.specs.declared.sides.Side.TheVariants.{Parents}
 use Rattle.key_table.specs.NumberedKeys.{AreDistinct}
 use Rattle.index_check.specs.ComparedLists.{Determines}
 use Rattle.index_check.specs.NeighbourSides.{is_neighbour}
-use Rattle.index_check.specs.Refinement.{StayTogether, AreNumbered}
+use Rattle.bisim_spec.specs.Refinement.{StayTogether}
+use Rattle.index_check.specs.Numbering.{AreNumbered}
 use Rattle.index_check.specs.OuterParents.{is_outer_parent, AreInnerLabels, HasWholeKey, IsInnerLabel, TellsByOuter, outer_block_at, outer_block}
 use Rattle.index_check.proofs.NumberedNodes.{key_of_block, numbered_refines}
-use Rattle.index_check.proofs.WrittenKeys.{key_of, key_from_together, parts_same}
+use Rattle.bisim_spec.proofs.WrittenKeys.{key_of, key_from_together, parts_same}
 
 other_get : (own o : Option ℕ) (b : ℕ) → outer_block own o ≡ Some b → (o ≡ Some b) × (is_this b own ≡ false)
 other_get own None b e = absurd (cc)

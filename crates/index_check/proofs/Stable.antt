@@ -10,7 +10,7 @@ use Rattle.bisim_spec.proofs.Stable.{stable_label, stable_parents}
 use Rattle.bisim_spec.specs.declared.sides.Side.TheVariants.{Parents, Children}
 use Rattle.index_check.specs.NeighbourSides.{is_neighbour}
 use Rattle.index_check.specs.NumberedShapes.{shape_by_number}
-use Rattle.index_check.specs.Refinement.{Refines}
+use Rattle.bisim_spec.specs.Refinement.{Refines}
 use Rattle.index_check.specs.ComparedLists.{Determines}
 
 pub stable_where : (size : ℕ) (label : ℕ → Option ℕ) (edge : ℕ → ℕ → Bool) (block labels next : List (Option ℕ)) → IsPartition (shape_by_number size label edge) block

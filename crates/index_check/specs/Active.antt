@@ -8,9 +8,9 @@ use Rattle.graph_spec.specs.Members.{at, has}
 use Rattle.bisim_spec.specs.Bisimilarity.{Matched, FB}
 use Rattle.bisim_spec.specs.Partitions.{Together, IsPartition}
 use Rattle.bisim_spec.specs.declared.sides.Side.TheVariants.{Parents, Children}
-use Rattle.index_check.specs.Keys.{IsKey}
+use Rattle.bisim_spec.specs.NodeKeys.{IsKey}
 use Rattle.index_check.specs.NeighbourSides.{is_neighbour}
-use Rattle.index_check.specs.Refinement.{StayTogether}
+use Rattle.bisim_spec.specs.Refinement.{StayTogether}
 
 -- the number at a place, and 0 past the end
 abbrev pub number_in : List ℕ → ℕ → ℕ

@@ -1,5 +1,4 @@
-pub mod Keys
-pub mod Refinement
+pub mod Numbering
 pub mod NeighbourSides
 pub mod NumberedShapes
 pub mod ComparedLists

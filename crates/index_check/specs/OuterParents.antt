@@ -4,9 +4,9 @@ use Rattle.graph_spec.specs.Members.{at, is_this}
 use Rattle.bisim_spec.specs.Partitions.{Together}
 use Rattle.bisim_spec.specs.Tests.{together}
 use Rattle.bisim_spec.specs.declared.sides.Side.TheVariants.{Parents}
-use Rattle.index_check.specs.Keys.{IsKey}
+use Rattle.bisim_spec.specs.NodeKeys.{IsKey}
 use Rattle.index_check.specs.NeighbourSides.{is_neighbour}
-use Rattle.index_check.specs.Refinement.{Share, StayTogether}
+use Rattle.bisim_spec.specs.Refinement.{Share, StayTogether}
 
 -- p is a parent of n in another block
 abbrev pub is_outer_parent : List (Option ℕ) → (ℕ → ℕ → Bool) → ℕ → ℕ → Bool

@@ -2,7 +2,8 @@
 ghost use Rattle.std.specs.Prelude.{◌≡◌, ◌||◌, [], ℕ, IsSome, IfOk, OnOk, nat_eq};
 ghost use Rattle.graph_spec.specs.Members.{at, has};
 ghost use Rattle.key_table.specs.NumberedKeys.{AreDistinct};
-ghost use Rattle.index_check.specs.Refinement.{Refines, Numbers};
+ghost use Rattle.bisim_spec.specs.Refinement.{Refines};
+ghost use Rattle.index_check.specs.Numbering.{Numbers};
 ghost use Rattle.index_check.specs.ClosedParents.{is_closed_parent};
 
 use crate::keys::{block_of, find_key};

@@ -2,7 +2,7 @@
 ghost use Rattle.std.specs.Prelude.{◌≡◌, ◌++◌, ◌∷◌, [], ℕ, List, Option, filter_map, option_to_list, OnOk, IfOk};
 ghost use Rattle.graph_spec.specs.Members.{at};
 ghost use Rattle.key_table.specs.NumberedKeys.{AreDistinct, Interns};
-ghost use Rattle.index_check.specs.Keys.{Gives, IsWritten};
+ghost use Rattle.bisim_spec.specs.NodeKeys.{Gives, IsWritten};
 
 use key_table::{KeyTable, sort_dedup};
 use px_base::Memory;

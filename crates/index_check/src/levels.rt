@@ -5,7 +5,7 @@ ghost use Rattle.bisim_spec.specs.declared.sides.Side.TheVariants.{Children};
 ghost use Rattle.bisim_spec.specs.Bisimilarity.{Bis, Both};
 ghost use Rattle.bisim_spec.specs.Partitions.{IsPartition, Agrees};
 ghost use Rattle.index_check.specs.NeighbourSides.{is_neighbour};
-ghost use Rattle.index_check.specs.Refinement.{IsNextLevel, Refines};
+ghost use Rattle.bisim_spec.specs.Refinement.{IsNextLevel, Refines};
 ghost use Rattle.index_check.specs.NumberedShapes.{digraph_shape};
 
 use crate::comparing::{are_same, span_of};

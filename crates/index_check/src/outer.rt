@@ -2,8 +2,8 @@
 ghost use Rattle.std.specs.Prelude.{◌≡◌, ◌↔◌, [], ℕ, List, Some, IsSome, IsTrue, IfOk, slice_get};
 ghost use Rattle.graph_spec.specs.Members.{at};
 ghost use Rattle.key_table.specs.NumberedKeys.{AreDistinct, Interns};
-ghost use Rattle.index_check.specs.Keys.{IsWritten};
-ghost use Rattle.index_check.specs.Refinement.{AreNumbered, Numbers};
+ghost use Rattle.bisim_spec.specs.NodeKeys.{IsWritten};
+ghost use Rattle.index_check.specs.Numbering.{AreNumbered, Numbers};
 ghost use Rattle.index_check.specs.OuterParents.{
   is_outer_parent,
   AreInnerLabels,

@@ -3,7 +3,8 @@ ghost use Rattle.std.specs.Prelude.{◌≡◌, ℕ, Some, IsSome, IfOk};
 ghost use Rattle.graph_spec.specs.Members.{at};
 ghost use Rattle.key_table.specs.NumberedKeys.{AreDistinct};
 ghost use Rattle.index_check.specs.NeighbourSides.{is_neighbour};
-ghost use Rattle.index_check.specs.Refinement.{Refines, Numbers};
+ghost use Rattle.bisim_spec.specs.Refinement.{Refines};
+ghost use Rattle.index_check.specs.Numbering.{Numbers};
 
 use crate::keys::{block_of, find_key};
 use crate::neighbour_lists::neighbours;

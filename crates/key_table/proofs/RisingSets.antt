@@ -22,14 +22,6 @@ contains_from (y ∷ ys) x h = elim (has_cases y ys x h) [
   | inr t ↦ let r = contains_from ys x t in (suc r.0, (let l = r.1 in omega arith), r.2)
 ]
 
-all_at : (P : ℕ → Type 0) (xs : List ℕ) (n : ℕ) → AllByRecursion P xs → has xs n ≡ true → P n
-all_at P [] n a h = absurd (true≢false (sym h))
-all_at P (x ∷ xs) n a h = elim (has_cases x xs n h) [ inl e ↦ subst P (sym e) a.0 | inr t ↦ all_at P xs n a.1 t ]
-
--- the first is below the others
-pub below_rest : (x : ℕ) (xs : List ℕ) (n : ℕ) → AllByRecursion (λ y. nat_cmp x y ≡ Less) xs → has xs n ≡ true → x < n
-below_rest x xs n a h = let less = all_at (λ y. nat_cmp x y ≡ Less) xs n a h in ranked x n Less (sym less)
-
 -- what is left of sorted numbers without repeats rises
 pub deduped_rising : (sorted kept : List ℕ) → IsSorted nat_cmp sorted → kept ≡ dedup nat_eq sorted → IsStrictlyIncreasing kept
 deduped_rising sorted kept is_sorted kept_is = subst IsStrictlyIncreasing (sym kept_is) (IsStrictlyIncreasing-dedup sorted is_sorted)

@@ -8,7 +8,7 @@ use Rattle.bisim_spec.specs.Bisimilarity.{SameLabel}
 use Rattle.bisim_spec.specs.Partitions.{IsPartition, Agrees}
 use Rattle.bisim_spec.proofs.Bisimilar.{some_of}
 use Rattle.bisim_levels.specs.NeighbourSides.{no_neighbours}
-use Rattle.bisim_levels.specs.Refinement.{Refines}
+use Rattle.bisim_spec.specs.Refinement.{Refines}
 use Rattle.bisim_levels.proofs.LabelledNodes.{node_number, number_node}
 use Rattle.bisim_levels.proofs.LevelLaws.{labels_agree}
 use Rattle.one_spec.specs.BlockLabels.{BlocksHaveLabels}

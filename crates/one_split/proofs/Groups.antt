@@ -7,9 +7,9 @@ use Rattle.graph_spec.specs.Members.{at, has}
 use Rattle.graph_spec.specs.Shapes.{Shape, IsShape}
 use Rattle.bisim_spec.specs.Partitions.{Together, IsPartition}
 use Rattle.bisim_spec.proofs.Bisimilar.{some_of}
-use Rattle.bisim_levels.specs.Keys.{IsKey}
-use Rattle.bisim_levels.specs.Refinement.{StayTogether}
-use Rattle.bisim_levels.proofs.WrittenKeys.{together_from_key}
+use Rattle.bisim_spec.specs.NodeKeys.{IsKey}
+use Rattle.bisim_spec.specs.Refinement.{StayTogether}
+use Rattle.bisim_spec.proofs.WrittenKeys.{together_from_key}
 use Rattle.one_spec.specs.SplitRoundSteps.{AreTargetBlocks}
 use Rattle.one_split.specs.Counted.{AreCounted}
 use Rattle.one_split.proofs.Wholes.{whole_counted, part_counted}

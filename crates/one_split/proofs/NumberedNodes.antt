@@ -5,7 +5,7 @@ use Rattle.std.proofs.lemmas.Bool.{cases_lt}
 use Rattle.std.proofs.lemmas.List.{get_or_push, get_or_append_left, length-append}
 use Rattle.key_table.specs.NumberedKeys.{Interns}
 use Rattle.graph_spec.specs.Members.{at}
-use Rattle.bisim_levels.specs.Keys.{IsKey}
+use Rattle.bisim_spec.specs.NodeKeys.{IsKey}
 use Rattle.bisim_levels.proofs.NumberedNodes.{interned_at, interned_stays}
 use Rattle.one_split.specs.Numbered.{HasNumber, HaveNumbers}
 

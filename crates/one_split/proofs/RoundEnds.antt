@@ -12,7 +12,7 @@ use Rattle.std.proofs.lemmas.List.Sums.{sum_by-cons}
 use Rattle.std.proofs.lemmas.Map.Keys.{sorted_from_strictly_increasing}
 use Rattle.graph_spec.specs.Members.{at, has}
 use Rattle.graph_spec.specs.Shapes.{Shape}
-use Rattle.bisim_levels.specs.Keys.{IsSetOf}
+use Rattle.bisim_spec.specs.NodeKeys.{IsSetOf}
 use Rattle.graph_update.specs.PendingChanges.{Pending}
 use Rattle.quotient_moves.specs.NeighbourCosts.{parents_cost}
 use Rattle.one_split.specs.SplitCosts.{move_cost, round_cost}

@@ -2,7 +2,7 @@
 use Rattle.std.specs.Prelude.{◌≡◌, ℕ, ◌<◌, Bool, List, Option, Some, length, slice_get, slice_index}
 use Rattle.graph_spec.specs.Members.{at}
 use Rattle.graph_spec.specs.Graphs.{has_edge}
-use Rattle.bisim_levels.specs.Keys.{IsKey}
+use Rattle.bisim_spec.specs.NodeKeys.{IsKey}
 use Rattle.key_table.specs.NumberedKeys.{Interns}
 use Rattle.graph_update.specs.PendingChanges.{Pending, graph_after}
 

@@ -1,5 +1,5 @@
 use Rattle.std.proofs.Common.{arith}
-use Rattle.bisim_levels.proofs.WrittenKeys.{blocks_more}
+use Rattle.bisim_spec.proofs.WrittenKeys.{blocks_more}
 use Rattle.bisim_levels.proofs.keys.push_blocks.Goals as goal
 
 pub loop-n-preserved : goal.loop-n-preserved

@@ -1,5 +1,5 @@
 use Rattle.std.proofs.Common.{◌≡◌, ◌++◌, ℕ, Option, filter_map, take}
-use Rattle.bisim_levels.specs.Keys.{Gives}
+use Rattle.bisim_spec.specs.NodeKeys.{Gives}
 use Rattle.bisim_levels.proofs.keys.push_blocks.Given as goal
 
 abbrev pub invariant-loop-n : goal.invariant-loop-n

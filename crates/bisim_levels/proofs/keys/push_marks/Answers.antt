@@ -1,6 +1,6 @@
 use Rattle.std.proofs.Common.{arith, ap, option_map}
 use Rattle.bisim_levels.specs.SidedKeys.{side_mark, marked}
-use Rattle.bisim_levels.proofs.WrittenKeys.{blocks_more}
+use Rattle.bisim_spec.proofs.WrittenKeys.{blocks_more}
 use Rattle.bisim_levels.proofs.keys.push_marks.Goals as goal
 
 pub loop-n-preserved : goal.loop-n-preserved

@@ -1,4 +1,4 @@
-use Rattle.bisim_levels.proofs.WrittenKeys.{written}
+use Rattle.bisim_spec.proofs.WrittenKeys.{written}
 use Rattle.bisim_levels.proofs.keys.write_key.Goals as goal
 
 pub returns : goal.returns

@@ -2,7 +2,7 @@ use Rattle.std.proofs.Common.{[]}
 use Rattle.label_graph.specs.GraphViews.{label_number}
 use Rattle.key_table.specs.NumberedKeys.{AreDistinct}
 use Rattle.bisim_levels.specs.NeighbourSides.{no_neighbours}
-use Rattle.bisim_levels.specs.Keys.{IsKey}
+use Rattle.bisim_spec.specs.NodeKeys.{IsKey}
 use Rattle.bisim_levels.proofs.NumberedNodes.{NumberedBelow}
 use Rattle.bisim_levels.proofs.levels.label_level.Given as goal
 

@@ -2,7 +2,7 @@ use Rattle.std.proofs.Common.{ℕ, List}
 use Rattle.std.proofs.lemmas.Result.{IfOk-weaker}
 use Rattle.graph_spec.specs.Members.{at}
 use Rattle.key_table.specs.NumberedKeys.{Interns}
-use Rattle.bisim_levels.specs.Keys.{IsWritten}
+use Rattle.bisim_spec.specs.NodeKeys.{IsWritten}
 use Rattle.bisim_levels.proofs.WrittenSides.{written_parents}
 use Rattle.bisim_levels.proofs.refining.find_key.Goals as goal
 

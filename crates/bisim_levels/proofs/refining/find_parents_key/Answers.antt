@@ -1,7 +1,7 @@
 use Rattle.std.proofs.Common.{◌∷◌, [], ℕ, List}
 use Rattle.std.proofs.lemmas.Result.{IfOk-weaker}
 use Rattle.key_table.specs.NumberedKeys.{Interns}
-use Rattle.bisim_levels.proofs.WrittenKeys.{written_one}
+use Rattle.bisim_spec.proofs.WrittenKeys.{written_one}
 use Rattle.bisim_levels.proofs.refining.find_parents_key.Goals as goal
 
 pub returns-in-Some-clause-ok : goal.returns-in-Some-clause-ok

@@ -2,9 +2,9 @@ use Rattle.std.proofs.Common.{rules, sym, ◌∙◌, subst}
 use Rattle.std.proofs.lemmas.Result.{IfOk-weaker}
 use Rattle.graph_spec.specs.Members.{at}
 use Rattle.key_table.specs.NumberedKeys.{Interns}
-use Rattle.bisim_levels.specs.Keys.{IsKey}
+use Rattle.bisim_spec.specs.NodeKeys.{IsKey}
 use Rattle.bisim_levels.specs.NeighbourSides.{is_neighbour}
-use Rattle.bisim_levels.proofs.WrittenKeys.{key_of}
+use Rattle.bisim_spec.proofs.WrittenKeys.{key_of}
 use Rattle.block_splitting.proofs.keys.key_number.Goals as goal
 
 pub returns-clause-ok : goal.returns-clause-ok

@@ -1,4 +1,4 @@
-use Rattle.index_check.proofs.WrittenKeys.{written}
+use Rattle.bisim_spec.proofs.WrittenKeys.{written}
 use Rattle.index_check.proofs.keys.write_key.Goals as goal
 
 pub returns : goal.returns

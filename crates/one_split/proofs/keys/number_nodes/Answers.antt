@@ -2,7 +2,7 @@ use Rattle.std.proofs.Common.{◌≡◌, ◌++◌, ◌∷◌, [], ℕ, length, a
 use Rattle.std.specs.Prelude.{slice_index, Bool}
 use Rattle.graph_spec.specs.Graphs.{has_edge}
 use Rattle.graph_spec.specs.Members.{at}
-use Rattle.bisim_levels.specs.Keys.{IsKey}
+use Rattle.bisim_spec.specs.NodeKeys.{IsKey}
 use Rattle.graph_update.specs.PendingChanges.{graph_after}
 use Rattle.quotient_draft.specs.Drafts.{shown_blocks}
 use Rattle.quotient_moves.specs.NeighbourCosts.{parents_cost}

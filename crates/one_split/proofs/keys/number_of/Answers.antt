@@ -3,8 +3,8 @@ use Rattle.std.proofs.lemmas.Result.{IfOk-weaker}
 use Rattle.graph_spec.specs.Members.{Lists, at}
 use Rattle.graph_spec.specs.Graphs.{has_edge}
 use Rattle.key_table.specs.NumberedKeys.{Interns}
-use Rattle.bisim_levels.specs.Keys.{IsKey}
-use Rattle.bisim_levels.proofs.WrittenKeys.{key_of}
+use Rattle.bisim_spec.specs.NodeKeys.{IsKey}
+use Rattle.bisim_spec.proofs.WrittenKeys.{key_of}
 use Rattle.graph_update.specs.PendingChanges.{graph_after}
 use Rattle.quotient_draft.specs.Drafts.{shown_blocks}
 use Rattle.one_split.proofs.keys.number_of.Goals as goal

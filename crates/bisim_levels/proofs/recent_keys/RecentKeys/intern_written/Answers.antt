@@ -2,7 +2,7 @@ use Rattle.std.proofs.Common.{rules, sym, subst}
 use Rattle.std.proofs.lemmas.Result.{IfOk-weaker}
 use Rattle.graph_spec.specs.Members.{at}
 use Rattle.key_table.specs.NumberedKeys.{Interns}
-use Rattle.bisim_levels.specs.Keys.{IsWritten}
+use Rattle.bisim_spec.specs.NodeKeys.{IsWritten}
 use Rattle.bisim_levels.proofs.recent_keys.RecentKeys.intern_written.Goals as goal
 
 pub returns-clause-ok : goal.returns-clause-ok

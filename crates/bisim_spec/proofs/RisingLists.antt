@@ -1,13 +1,22 @@
 -- Lists of rising numbers.
-use Rattle.std.proofs.Common.{◌≡◌, ℕ, ◌⊎◌, List, [], ◌∷◌, Option, Some, None, refl, sym, ◌∙◌, ap, subst, arith, inl, inr, true, filter_map, true≢false}
+use Rattle.std.proofs.Common.{◌≡◌, ℕ, ◌⊎◌, ◌<◌, List, [], ◌∷◌, Option, Some, None, refl, sym, ◌∙◌, ap, subst, arith, inl, inr, true, filter_map, true≢false}
 use Rattle.std.specs.Ordering.{nat_cmp}
-use Rattle.std.specs.List.{cons_option}
+use Rattle.std.specs.Cmp.{ranked}
+use Rattle.std.specs.List.{cons_option, AllByRecursion}
 use Rattle.std.specs.List.Sorted.{IsStrictlySortedBy, IsStrictlyIncreasing}
+use Rattle.std.specs.declared.cmp.Ordering.TheVariants.{Less}
 use Rattle.std.proofs.lemmas.Map.Keys.{sorted_from_strictly_increasing}
 use Rattle.graph_spec.specs.Members.{has}
 use Rattle.graph_spec.proofs.MemberLaws.{has_cases, has_head, has_tail}
-use Rattle.key_table.proofs.RisingSets.{below_rest}
-use Rattle.bisim_levels.specs.Keys.{IsSetOf, AreImages}
+use Rattle.bisim_spec.specs.NodeKeys.{IsSetOf, AreImages}
+
+all_at : (P : ℕ → Type 0) (xs : List ℕ) (n : ℕ) → AllByRecursion P xs → has xs n ≡ true → P n
+all_at P [] n a h = absurd (true≢false (sym h))
+all_at P (x ∷ xs) n a h = elim (has_cases x xs n h) [ inl e ↦ subst P (sym e) a.0 | inr t ↦ all_at P xs n a.1 t ]
+
+-- the first is below the others
+pub below_rest : (x : ℕ) (xs : List ℕ) (n : ℕ) → AllByRecursion (λ y. nat_cmp x y ≡ Less) xs → has xs n ≡ true → x < n
+below_rest x xs n a h = let less = all_at (λ y. nat_cmp x y ≡ Less) xs n a h in ranked x n Less (sym less)
 
 sorted_unique : (xs ys : List ℕ) → IsStrictlySortedBy nat_cmp xs → IsStrictlySortedBy nat_cmp ys → ((b : ℕ) → has xs b ≡ true → has ys b ≡ true)
     → ((b : ℕ) → has ys b ≡ true → has xs b ≡ true) → xs ≡ ys

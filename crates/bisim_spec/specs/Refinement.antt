@@ -1,11 +1,10 @@
 -- A partition refined by the blocks of neighbours (refinement step of R. Paige and R. E. Tarjan, "Three Partition Refinement
 -- Algorithms", SIAM Journal on Computing 16, 1987, done for all blocks at once).
-use Rattle.std.specs.Prelude.{ℕ, ◌≡◌, ◌<◌, ◌≤◌, Bool, List, length, Option, None, Some, IsSome, IsTrue, slice_get, suc}
-use Rattle.bisim_spec.specs.Bisimilarity.{Matched}
+use Rattle.std.specs.Prelude.{ℕ, ◌≡◌, Bool, List, Option, Some, IsSome, IsTrue, suc}
 use Rattle.graph_spec.specs.Members.{at}
 use Rattle.graph_spec.specs.Shapes.{Shape}
+use Rattle.bisim_spec.specs.Bisimilarity.{Matched}
 use Rattle.bisim_spec.specs.Partitions.{Together, Agrees}
-use Rattle.index_check.specs.Keys.{IsKey}
 
 -- the function gives both the same number
 abbrev pub Share : (ℕ → Option ℕ) → ℕ → ℕ → Type 0
@@ -22,25 +21,6 @@ pub record Refines (own : ℕ → Option ℕ) (base : List (Option ℕ)) (neighb
   pub only : (n : ℕ) → IsSome (at next n) → IsSome (own n)
   pub parted : (u v : ℕ) → Together next u v → StayTogether own base neighbour_of u v
   pub grouped : (u v : ℕ) → StayTogether own base neighbour_of u v → Together next u v
-
--- The blocks of next are numbered by the keys of their members, where key gives the key of a number, or none: a node's block
--- has the node's key, and each number with a key is the block of some node.
-pub record AreNumbered (own : ℕ → Option ℕ) (base : List (Option ℕ)) (neighbour_of : ℕ → ℕ → Bool) (next : List (Option ℕ))
-    (key : ℕ → Option (List ℕ)) : Type 0 where
-  pub none : (n : ℕ) → own n ≡ None → at next n ≡ None
-  pub some : (n b : ℕ) → own n ≡ Some b
-      → (k : ℕ) × (numbers : List ℕ) × (at next n ≡ Some k) × (key k ≡ Some numbers) × IsKey own base neighbour_of n numbers
-  pub inhabited : (k : ℕ) → IsSome (key k) → (n : ℕ) × (at next n ≡ Some k)
-
--- One more node is numbered: keys that were there stay; the number is that of the node's key, and none where the node has
--- no block; a key that is new is that of the node.
-pub record Numbers (own : ℕ → Option ℕ) (base : List (Option ℕ)) (neighbour_of : ℕ → ℕ → Bool) (n : ℕ) (old new : List (List ℕ))
-    (number : Option ℕ) : Type 0 where
-  pub stay : (k : ℕ) (key : List ℕ) → slice_get old k ≡ Some key → slice_get new k ≡ Some key
-  pub none : own n ≡ None → number ≡ None
-  pub some : (b : ℕ) → own n ≡ Some b
-      → (k : ℕ) × (key : List ℕ) × (number ≡ Some k) × (slice_get new k ≡ Some key) × IsKey own base neighbour_of n key
-  pub fresh : (k : ℕ) → length old ≤ k → k < length new → number ≡ Some k
 
 -- Whatever the level: where the one partition is into the classes of a relation at that level, the other is into those
 -- at the next.

@@ -5,9 +5,9 @@ use Rattle.std.proofs.lemmas.List.{take_more}
 use Rattle.std.proofs.lemmas.List.Elements.{filter_map-append}
 use Rattle.graph_spec.specs.Members.{has, Lists, at}
 use Rattle.bisim_spec.specs.Partitions.{Together}
-use Rattle.bisim_levels.specs.Keys.{IsSetOf, IsWritten, IsKey}
-use Rattle.bisim_levels.specs.Refinement.{StayTogether}
-use Rattle.bisim_levels.proofs.RisingLists.{images_set, rising_unique}
+use Rattle.bisim_spec.specs.NodeKeys.{IsSetOf, IsWritten, IsKey}
+use Rattle.bisim_spec.specs.Refinement.{StayTogether}
+use Rattle.bisim_spec.proofs.RisingLists.{images_set, rising_unique}
 
 one_image : (o : Option ℕ) → cons_option o [] ≡ option_to_list o
 one_image None = refl
