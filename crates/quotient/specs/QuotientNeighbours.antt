@@ -96,3 +96,7 @@ CountsPairs pairs t t2 = (x y : ℕ) → support_at t2 x y ≡ total_support t p
 -- what is counted and what is still gathered are together as many as before
 abbrev pub SameTotals : SupportTable → List (ℕ × ℕ) → SupportTable → List (ℕ × ℕ) → Type 0
 SameTotals t pairs t2 pairs2 = (x y : ℕ) → total_support t2 pairs2 x y ≡ total_support t pairs x y
+
+-- those edges of the set that begin before a node are counted or gathered, and no others
+pub record AreCountedBelow (edges : Edges) (block : List (Option ℕ)) (n : ℕ) (t : SupportTable) (pairs : List (ℕ × ℕ)) : Type 0 where
+  pub same : (x y : ℕ) → total_support t pairs x y ≡ edges_below edges block n x y

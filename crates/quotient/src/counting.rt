@@ -11,7 +11,7 @@ use px_base::{Memory, NodeId};
 use std::alloc::Global;
 
 /// How many pairs of blocks are gathered before they are counted.
-const BATCH: usize = 4096;
+pub(crate) const BATCH: usize = 4096;
 
 // Puts a pair of blocks behind the others, where there are two.
 #[inline(always)]
@@ -33,9 +33,9 @@ fn push_pair(
     Ok(())
 }
 
-// Gathers the blocks of one more edge.
+/// Gathers the blocks of one more edge.
 #[inline(always)]
-fn gather_edge(
+pub(crate) fn gather_edge(
     pairs: &mut Vec<(u32, u32)>,
     blocks: &Blocks,
     from: NodeId,
@@ -49,8 +49,8 @@ fn gather_edge(
     push_pair(pairs, a, b, blocks.span())
 }
 
-// Counts the pairs of blocks.
-fn count_pairs(joins: &mut Joins, pairs: &[(u32, u32)]) -> Result<(), Memory>
+/// Counts the pairs of blocks.
+pub(crate) fn count_pairs(joins: &mut Joins, pairs: &[(u32, u32)]) -> Result<(), Memory>
     requires few { (x y : ℕ) → total_support joins.old.supports.pairs pairs.now x y ≤ 2 ^ 30 }
     requires below { AreBelow (length joins.old.children.lists) pairs.now }
     requires neighbour_lists { AreNeighbourLists joins.old.supports.pairs joins.old.children.lists joins.old.parents.lists }
@@ -66,9 +66,9 @@ fn count_pairs(joins: &mut Joins, pairs: &[(u32, u32)]) -> Result<(), Memory>
     Ok(())
 }
 
-// Counts the pairs of blocks that were gathered, once they are many.
+/// Counts the pairs of blocks that were gathered, once they are many.
 #[inline(always)]
-fn count_batch(joins: &mut Joins, pairs: &mut Vec<(u32, u32)>) -> Result<(), Memory>
+pub(crate) fn count_batch(joins: &mut Joins, pairs: &mut Vec<(u32, u32)>) -> Result<(), Memory>
     requires few { (x y : ℕ) → total_support joins.old.supports.pairs pairs.old.items x y ≤ 2 ^ 30 }
     requires below { AreBelow (length joins.old.children.lists) pairs.old.items }
     requires neighbour_lists { AreNeighbourLists joins.old.supports.pairs joins.old.children.lists joins.old.parents.lists }

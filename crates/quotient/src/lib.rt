@@ -8,6 +8,7 @@ mod block_neighbours;
 mod counting;
 mod edges;
 mod editing;
+mod graph_edges;
 mod joins;
 mod places;
 mod summary;

@@ -8,6 +8,7 @@ ghost use Rattle.quotient.specs.Quotients.{AreSupports, pair_count, is_adjacent,
 
 use crate::counting::count_edges;
 use crate::edges::EdgeList;
+use crate::graph_edges::count_graph;
 use crate::joins::Joins;
 use block_partition::{Blocks, Members};
 use label_graph::{Digraph, GraphView};
@@ -59,14 +60,13 @@ impl Model for Summary {
 
 impl Summary {
     /// The quotient of a graph by a partition of its nodes. Where memory runs out, the blocks are dropped. Expected
-    /// O(n + m) for n node numbers and m edges. While it runs it takes 8 bytes an edge, beside the memory of
-    /// `of_edges`.
+    /// O(n + `span` + m) for n node numbers and m edges; it takes the memory of `of_edges`.
     pub fn of(alloc: Global, blocks: Blocks, view: &GraphView<'_>) -> Result<Summary, Memory>
         ensures blocks { IfOk result (λ s. s.blocks ≡ blocks) }
         ensures supports { IfOk result (λ s. AreSupports view.now.edges blocks.block_of s.supports) }
     {
-        let edges = EdgeList::of(alloc, view)?;
-        Summary::of_edges(alloc, blocks, &edges)
+        let joins = count_graph(alloc, &blocks, view)?;
+        Ok(Summary { blocks, joins })
     }
 
     /// The quotient by a partition, from a list of edges: the support of a pair of blocks is the number of
