@@ -14,6 +14,6 @@ pub(crate) fn summary_of_view(alloc: Global, view: &GraphView<'_>) -> Result<Sum
     ensures { IfOk result (λ s. FitsFb view.now (view_of s)) }
 {
     let blocks = full_bisimulation_both_ways(alloc, view)?;
-    let summary = Summary::of(alloc, blocks, view)?;
+    let summary = Summary::of_fixed(alloc, blocks, view)?;
     Ok(summary)
 }

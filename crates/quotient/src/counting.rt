@@ -103,7 +103,7 @@ pub(crate) fn count_edges(
     ensures parents { IfOk result (λ j. length j.parents.lists ≡ length blocks.now.labels) }
 {
     let span = blocks.span() as usize;
-    let mut joins = Joins::new(alloc, span, edges.len().min(2 * span))?;
+    let mut joins = Joins::new(alloc, span, edges.len().min(2 * span), true)?;
     let mut pairs = Vec::with_capacity(alloc, BATCH)?;
     for (from, onto) in edges {
         gather_edge(&mut pairs, blocks, *from, *onto)?;

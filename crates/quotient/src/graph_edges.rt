@@ -74,6 +74,7 @@ pub(crate) fn count_graph(
     alloc: Global,
     blocks: &Blocks,
     view: &GraphView<'_>,
+    is_noting: bool,
 ) -> Result<Joins, Memory>
     ensures supports { IfOk result (λ j. AreSupports view.now.edges blocks.now.block_of j.supports.pairs) }
     ensures live { IfOk result (λ j. AreLive blocks.now j.supports.pairs) }
@@ -83,7 +84,7 @@ pub(crate) fn count_graph(
 {
     let span = blocks.span() as usize;
     let edges = view.edge_count() as usize;
-    let mut joins = Joins::new(alloc, span, edges.min(2 * span))?;
+    let mut joins = Joins::new(alloc, span, edges.min(2 * span), is_noting)?;
     let mut pairs = Vec::with_capacity(alloc, BATCH)?;
     for n in 0..view.size() {
         count_node(&mut joins, &mut pairs, view, blocks, n)?;

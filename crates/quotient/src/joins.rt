@@ -20,15 +20,20 @@ pub(crate) struct Joins {
 }
 
 impl Joins {
-    /// No edges, between that many blocks, and capacity for that many pairs.
-    pub(crate) fn new(alloc: Global, blocks: usize, pairs: usize) -> Result<Joins, Memory>
+    /// No edges, between that many blocks, and capacity for that many pairs, whose places are noted if `is_noting`.
+    pub(crate) fn new(
+        alloc: Global,
+        blocks: usize,
+        pairs: usize,
+        is_noting: bool,
+    ) -> Result<Joins, Memory>
         ensures supports { IfOk result (λ j. j.supports.pairs ≡ table.empty) }
         ensures neighbour_lists { IfOk result (λ j. AreNeighbourLists j.supports.pairs j.children.lists j.parents.lists) }
         ensures children { IfOk result (λ j. length j.children.lists ≡ blocks) }
         ensures parents { IfOk result (λ j. length j.parents.lists ≡ blocks) }
     {
         Ok(Joins {
-            supports: Supports::with_reserved(alloc, pairs)?,
+            supports: Supports::with_reserved(alloc, pairs, is_noting)?,
             children: BlockNeighbours::new(alloc, blocks)?,
             parents: BlockNeighbours::new(alloc, blocks)?,
         })

@@ -25,28 +25,35 @@ fn noted(place: usize) -> u32 {
     u32::try_from(place).unwrap_or(u32::MAX)
 }
 
-/// The place of each pair, by its index in the table of supports. 8 bytes a pair.
+/// The place of each pair, by its index in the table of supports: 8 bytes a pair. For a quotient that is only read, none is noted,
+/// and the list stays empty.
 #[derive(Drop)]
 pub(crate) struct Places {
     list: Vec<Place>,
+    is_noting: bool,
 }
 
 impl Places {
-    pub(crate) fn new(alloc: Global) -> Places {
+    pub(crate) fn new(alloc: Global, is_noting: bool) -> Places {
         Places {
             list: Vec::new(alloc),
+            is_noting,
         }
     }
 
     /// Reserves capacity for that many further pairs.
     pub(crate) fn reserve(&mut self, more: usize) -> Result<(), Memory> {
-        self.list.reserve(more)?;
+        if self.is_noting {
+            self.list.reserve(more)?;
+        }
         Ok(())
     }
 
     /// Notes the place of a further pair.
     pub(crate) fn push(&mut self, place: Place) -> Result<(), Memory> {
-        self.list.push(place)?;
+        if self.is_noting {
+            self.list.push(place)?;
+        }
         Ok(())
     }
 

@@ -65,7 +65,17 @@ impl Summary {
         ensures blocks { IfOk result (λ s. s.blocks ≡ blocks) }
         ensures supports { IfOk result (λ s. AreSupports view.now.edges blocks.block_of s.supports) }
     {
-        let joins = count_graph(alloc, &blocks, view)?;
+        let joins = count_graph(alloc, &blocks, view, true)?;
+        Ok(Summary { blocks, joins })
+    }
+
+    /// The same, in less memory: 8 bytes less for each pair with support. It serves a quotient that is only read, since
+    /// a pair that loses its support is searched for in the lists of its two blocks.
+    pub fn of_fixed(alloc: Global, blocks: Blocks, view: &GraphView<'_>) -> Result<Summary, Memory>
+        ensures blocks { IfOk result (λ s. s.blocks ≡ blocks) }
+        ensures supports { IfOk result (λ s. AreSupports view.now.edges blocks.block_of s.supports) }
+    {
+        let joins = count_graph(alloc, &blocks, view, false)?;
         Ok(Summary { blocks, joins })
     }
 

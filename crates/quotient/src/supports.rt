@@ -35,20 +35,24 @@ impl Model for Supports {
 }
 
 impl Supports {
-    pub(crate) fn new(alloc: Global) -> Supports
+    pub(crate) fn new(alloc: Global, is_noting: bool) -> Supports
         ensures { result.pairs ≡ map.empty }
     {
         Supports {
             table: IndexMap::new(alloc),
-            places: Places::new(alloc),
+            places: Places::new(alloc, is_noting),
         }
     }
 
     /// No supports, and capacity for that many pairs.
-    pub(crate) fn with_reserved(alloc: Global, pairs: usize) -> Result<Supports, Memory>
+    pub(crate) fn with_reserved(
+        alloc: Global,
+        pairs: usize,
+        is_noting: bool,
+    ) -> Result<Supports, Memory>
         ensures { IfOk result (λ s. s.pairs ≡ map.empty) }
     {
-        let mut supports = Supports::new(alloc);
+        let mut supports = Supports::new(alloc, is_noting);
         supports.reserve(pairs)?;
         Ok(supports)
     }
