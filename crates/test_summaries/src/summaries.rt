@@ -252,6 +252,12 @@ fn write_all(rt: &impl Abort, alloc: Global, view: &GraphView<'_>) -> Result<(),
     check_writes(rt, &mut summary)
 }
 
+// The same where no places are noted.
+fn write_fixed(rt: &impl Abort, alloc: Global, view: &GraphView<'_>) -> Result<(), Fail> {
+    let mut summary = Summary::of_fixed(alloc, alone(rt, alloc)?, view)?;
+    check_writes(rt, &mut summary)
+}
+
 fn take_spokes<L: Ledger>(rt: &impl Abort, alloc: Global, blank: Blank) -> Result<(), Fail>
     requires name { blank.name ≡ L.name }
     requires parts { blank.parts ≡ L.parts }
@@ -259,7 +265,9 @@ fn take_spokes<L: Ledger>(rt: &impl Abort, alloc: Global, blank: Blank) -> Resul
 {
     let mut steps = Steps::<L>::new(blank);
     let graph = graph_from(alloc, HUB, SPOKES, &mut steps)?;
-    write_all(rt, alloc, &graph.view(&mut steps))
+    let view = graph.view(&mut steps);
+    write_all(rt, alloc, &view)?;
+    write_fixed(rt, alloc, &view)
 }
 
 #[test]

@@ -1,4 +1,4 @@
-use Rattle.std.proofs.Common.{◌∙◌, ◌≡◌, ℕ, List, ap, sym, arith, length, take, subst, ◌+◌}
+use Rattle.std.proofs.Common.{◌∙◌, ◌≡◌, ℕ, List, ap, sym, arith, take, subst, ◌+◌}
 use Rattle.std.proofs.lemmas.List.{take_all}
 use Rattle.quotient.specs.QuotientNeighbours.{AreBelow, pairs_between}
 use Rattle.quotient.proofs.EdgeLists.{between_more, between_take}
