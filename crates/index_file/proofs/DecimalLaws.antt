@@ -9,7 +9,7 @@ use Rattle.std.proofs.lemmas.List.{append-nil, take-append-drop, nil_from_length
 use Rattle.std.proofs.lemmas.List.Sums.{prefix_len_is}
 use Rattle.std.proofs.lemmas.Str.{digit_value_digit}
 use Rattle.std.proofs.lemmas.Int.Digits.{digits_value_more}
-use Rattle.index_file.specs.FoundNumbers.{saturated, front, back, IsFound}
+use Rattle.index_file.specs.FoundNumbers.{saturated, digits_ahead, after_digits, IsFound}
 use Rattle.index_file.specs.Statements.{is_decimal, number_of, IsNumber}
 
 pub past : (x : ℕ) → 1000000000000000000 < x → saturated x ≡ 1000000000000000000
@@ -54,31 +54,31 @@ digits_more text i before here k l = elim (cases_lt k i) [
 -- a place up to which digits stand, and where none stands
 pub front_at : (text : List ℕ) (i v : ℕ) → i ≤ length text → ((k : ℕ) → k < i → is_ascii_digit (get_or text k 0) ≡ true)
     → (i < length text → is_ascii_digit (get_or text i 0) ≡ false) → v ≡ saturated (digits_value 10 (take i text))
-    → (i ≡ prefix_len is_ascii_digit text) × (v ≡ saturated (digits_value 10 (front text)))
+    → (i ≡ prefix_len is_ascii_digit text) × (v ≡ saturated (digits_value 10 (digits_ahead text)))
 front_at text i v within digits ends e =
     let len = sym (prefix_len_is is_ascii_digit text i 0 within digits ends) in
     (len, e ∙ ap (λ n. saturated (digits_value 10 (take n text))) len)
 
-pub front_digits : (text : List ℕ) → list_all is_ascii_digit (front text) ≡ true
+pub front_digits : (text : List ℕ) → list_all is_ascii_digit (digits_ahead text) ≡ true
 front_digits [] = refl
 front_digits (d ∷ ds) = by (is_ascii_digit d) refl (front_digits ds)
   where
-    by : (b : Bool) → is_ascii_digit d ≡ b → list_all is_ascii_digit (front ds) ≡ true → list_all is_ascii_digit (take (cond b (1 + prefix_len is_ascii_digit ds) 0) (d ∷ ds)) ≡ true
+    by : (b : Bool) → is_ascii_digit d ≡ b → list_all is_ascii_digit (digits_ahead ds) ≡ true → list_all is_ascii_digit (take (cond b (1 + prefix_len is_ascii_digit ds) 0) (d ∷ ds)) ≡ true
     by false e rest = refl
     by true e rest =
         let next : 1 + prefix_len is_ascii_digit ds ≡ suc (prefix_len is_ascii_digit ds) = omega arith in
-        ap (λ n. list_all is_ascii_digit (take n (d ∷ ds))) next ∙ ap (λ b. b && list_all is_ascii_digit (front ds)) e ∙ rest
+        ap (λ n. list_all is_ascii_digit (take n (d ∷ ds))) next ∙ ap (λ b. b && list_all is_ascii_digit (digits_ahead ds)) e ∙ rest
 
 -- digits alone
-pub back_none : (text : List ℕ) → list_all is_ascii_digit text ≡ true → back text ≡ []
+pub back_none : (text : List ℕ) → list_all is_ascii_digit text ≡ true → after_digits text ≡ []
 back_none [] h = refl
 back_none (d ∷ ds) h =
     let p = and_parts (is_ascii_digit d) (list_all is_ascii_digit ds) h in
     let next : 1 + prefix_len is_ascii_digit ds ≡ suc (prefix_len is_ascii_digit ds) = omega arith in
     ap (λ n. drop n (d ∷ ds)) (ap (λ b. cond b (1 + prefix_len is_ascii_digit ds) 0) p.0 ∙ next) ∙ back_none ds p.1
 
-pub front_all : (text : List ℕ) → back text ≡ [] → front text ≡ text
-front_all text e = sym (append-nil (front text)) ∙ ap (λ r. front text ++ r) (sym e) ∙ take-append-drop (prefix_len is_ascii_digit text) text
+pub front_all : (text : List ℕ) → after_digits text ≡ [] → digits_ahead text ≡ text
+front_all text e = sym (append-nil (digits_ahead text)) ∙ ap (λ r. digits_ahead text ++ r) (sym e) ∙ take-append-drop (prefix_len is_ascii_digit text) text
 
 pub number_is : (digits : List ℕ) → is_decimal digits ≡ true → number_of digits ≡ Some (digits_value 10 digits)
 number_is digits h = rw h refl
@@ -97,11 +97,11 @@ found_number digits r h e = record {
   is = e;
 }
 
-pub found_in_front : (text digits : List ℕ) (r : ℕ) → digits ≡ front text → is_decimal digits ≡ true → r ≡ saturated (digits_value 10 (front text)) → IsFound (IsNumber (front text)) r
-found_in_front text digits r e h v = found_number (front text) r (ap is_decimal (sym e) ∙ h) v
+pub found_in_front : (text digits : List ℕ) (r : ℕ) → digits ≡ digits_ahead text → is_decimal digits ≡ true → r ≡ saturated (digits_value 10 (digits_ahead text)) → IsFound (IsNumber (digits_ahead text)) r
+found_in_front text digits r e h v = found_number (digits_ahead text) r (ap is_decimal (sym e) ∙ h) v
 
-pub none_in_front : (text digits : List ℕ) → digits ≡ front text → is_decimal digits ≡ false → (n : ℕ) → IsNumber (front text) n → ⊥
-none_in_front text digits e off n = no_number (front text) n (ap is_decimal (sym e) ∙ off)
+pub none_in_front : (text digits : List ℕ) → digits ≡ digits_ahead text → is_decimal digits ≡ false → (n : ℕ) → IsNumber (digits_ahead text) n → ⊥
+none_in_front text digits e off n = no_number (digits_ahead text) n (ap is_decimal (sym e) ∙ off)
 
 pub digits_of : (digits : List ℕ) (n : ℕ) → IsNumber digits n → list_all is_ascii_digit digits ≡ true
 digits_of digits n e = elim (cases_Bool (is_decimal digits)) [
@@ -110,15 +110,15 @@ digits_of digits n e = elim (cases_Bool (is_decimal digits)) [
 ]
 
 -- a number has nothing behind its digits, and is all of them
-pub number_front : (text : List ℕ) (n : ℕ) → IsNumber text n → (back text ≡ []) × IsNumber (front text) n
+pub number_front : (text : List ℕ) (n : ℕ) → IsNumber text n → (after_digits text ≡ []) × IsNumber (digits_ahead text) n
 number_front text n p =
     let none = back_none text (digits_of text n p) in
     (none, subst (λ d. IsNumber d n) (sym (front_all text none)) p)
 
-pub found_whole : (text rest : List ℕ) (r : ℕ) → IsFound (IsNumber (front text)) r → rest ≡ back text → (length rest == 0) ≡ true → IsFound (IsNumber text) r
+pub found_whole : (text rest : List ℕ) (r : ℕ) → IsFound (IsNumber (digits_ahead text)) r → rest ≡ after_digits text → (length rest == 0) ≡ true → IsFound (IsNumber text) r
 found_whole text rest r f e none = subst (λ d. IsFound (IsNumber d) r) (front_all text (sym e ∙ nil_from_length rest (eqb-true (length rest) 0 none))) f
 
-pub no_more : (text rest : List ℕ) (n : ℕ) → rest ≡ back text → (length rest == 0) ≡ false → IsNumber text n → ⊥
+pub no_more : (text rest : List ℕ) (n : ℕ) → rest ≡ after_digits text → (length rest == 0) ≡ false → IsNumber text n → ⊥
 no_more text rest n e more p = true≢false (sym (ap (λ r. length r == 0) (e ∙ (number_front text n p).0)) ∙ more)
 
 -- a number begins with a digit

@@ -8,11 +8,11 @@ abbrev pub saturated : ℕ → ℕ
 saturated n = if nat_le n 1000000000000000000 then n else 1000000000000000000
 
 -- the digits in front of a text, and what stands behind them
-abbrev pub front : List ℕ → List ℕ
-front text = take (prefix_len is_ascii_digit text) text
+abbrev pub digits_ahead : List ℕ → List ℕ
+digits_ahead text = take (prefix_len is_ascii_digit text) text
 
-abbrev pub back : List ℕ → List ℕ
-back text = drop (prefix_len is_ascii_digit text) text
+abbrev pub after_digits : List ℕ → List ℕ
+after_digits text = drop (prefix_len is_ascii_digit text) text
 
 -- r is read of the one number of which P holds
 pub record IsFound (P : ℕ → Type 0) (r : ℕ) : Type 0 where

@@ -5,7 +5,7 @@ ghost use Rattle.std.specs.Char.{is_ascii_digit};
 ghost use Rattle.std.specs.Str.Parse.{digits_value};
 ghost use Rattle.index_file.specs.Statements as spelled;
 ghost use Rattle.index_file.specs.Statements.{IsNumber, AreNumbers, HasPrefix};
-ghost use Rattle.index_file.specs.FoundNumbers.{IsFound, AreFound, saturated, front, back};
+ghost use Rattle.index_file.specs.FoundNumbers.{IsFound, AreFound, saturated, digits_ahead, after_digits};
 
 use crate::words::behind;
 
@@ -40,7 +40,7 @@ fn with_digit(value: u64, digit: u8) -> u64
 // How many digits stand in front, and their value, which is 10^18 where it is past that.
 fn leading_digits(text: &[u8]) -> (usize, u64)
     ensures count { result.0 ≡ prefix_len is_ascii_digit text.now }
-    ensures value { result.1 ≡ saturated (digits_value 10 (front text.now)) }
+    ensures value { result.1 ≡ saturated (digits_value 10 (digits_ahead text.now)) }
 {
     let mut value: u64 = 0;
     for (i, d) in text.iter().enumerate() {
@@ -55,8 +55,8 @@ fn leading_digits(text: &[u8]) -> (usize, u64)
 // The number that the digits in front write, as `number` gives it, and what stands behind them. None exactly where they
 // write none. O(d) for d digits, no memory.
 fn leading_number(text: &[u8]) -> Option<(u64, &[u8])>
-    ensures found { IfSome result (λ p. IsFound (IsNumber (front text.now)) p.0 × (p.1.now ≡ back text.now)) }
-    ensures none { IfNone result ((n : ℕ) → IsNumber (front text.now) n → ⊥) }
+    ensures found { IfSome result (λ p. IsFound (IsNumber (digits_ahead text.now)) p.0 × (p.1.now ≡ after_digits text.now)) }
+    ensures none { IfNone result ((n : ℕ) → IsNumber (digits_ahead text.now) n → ⊥) }
 {
     let (count, value) = leading_digits(text);
     let (digits, rest) = text.split_at(count);
