@@ -1,8 +1,8 @@
 -- The first step that takes a node away, as a change gets one step more, and whether it stands before a place, or behind.
-use Rattle.std.proofs.Common.{◌≡◌, ℕ, zero, suc, ◌<◌, ◌≤◌, true, false, List, [], ◌∷◌, ◌++◌, length, take, drop, refl, sym, ap, ◌∙◌, subst, arith, inl, inr, nat_le, nat_lt, true≢false}
-use Rattle.std.specs.Prelude.{◌&&◌, ◌||◌, min, if◌then◌else◌}
-use Rattle.std.proofs.Math.Bool.{and-false, and-true, or-true}
-use Rattle.std.proofs.lemmas.Bool.{cases_Bool, cases_lt, lt-ltb, le-ltb, le-leb, lt-leb}
+use Rattle.std.proofs.Common.{◌≡◌, ℕ, zero, suc, ◌<◌, ◌≤◌, true, false, List, [], ◌∷◌, ◌++◌, length, take, drop, refl, sym, ap, ◌∙◌, subst, arith, inl, inr, nat_lt, true≢false}
+use Rattle.std.specs.Prelude.{◌||◌, min, if◌then◌else◌}
+use Rattle.std.proofs.Math.Bool.{or-true}
+use Rattle.std.proofs.lemmas.Bool.{cases_Bool, cases_lt, lt-ltb, le-ltb}
 use Rattle.change_spec.specs.Steps.{Step, node, link, unlink, drop as drop_step, relabel}
 use Rattle.change_spec.specs.Named.{names, takes_away, is_dropped}
 use Rattle.graph_steps.specs.NamedSteps.{DropsLast}
@@ -109,18 +109,24 @@ none_from c from n none = elim (cases_Bool (is_dropped (drop from c) n)) [
   | inr off ↦ off
 ]
 
-pub taken_behind : (c : List Step) (from place n : ℕ) → length c ≤ nowhere → DropsLast c → IsTaken n c place → (nat_le from place && nat_lt place (length c)) ≡ is_dropped (drop from c) n
-taken_behind c from place n few last is = elim (cases_lt place (length c)) [
-  | inl within ↦ (
+-- no step takes the node away
+none_later : (c : List Step) (from place n : ℕ) → IsTaken n c place → length c ≤ place → is_dropped (drop from c) n ≡ false
+none_later c from place n is past = none_from c from n (λ i low h. (let within = takes_within c i n h in true≢false (sym h ∙ is.before i (omega (arith, within, past)))))
+
+-- where the step that takes the node away is from there on, whether it is one of the steps tells
+pub taken_behind : (c : List Step) (from place n : ℕ) → length c ≤ nowhere → DropsLast c → IsTaken n c place → from ≤ place → nat_lt place (length c) ≡ is_dropped (drop from c) n
+taken_behind c from place n few last is low = elim (cases_lt place (length c)) [
+  | inl within ↦
       let on : takes_at c place n ≡ true = elim is.there [ inl on ↦ on | inr e ↦ absurd (omega (arith, e, within, few)) ] in
-      ap (λ b. nat_le from place && b) (lt-ltb place (length c) within) ∙ and-true (nat_le from place)
-      ∙ elim (cases_lt place from) [
-        | inl early ↦
-            lt-leb from place early
-            ∙ sym (none_from c from n (λ i low h. true≢false (sym (named_there c i n h) ∙ behind_take c place i n last on (omega (arith, early, low)))))
-        | inr low ↦ le-leb from place low ∙ sym (taken_from c from place n low on)
-      ])
-  | inr past ↦
-      ap (λ b. nat_le from place && b) (le-ltb place (length c) past) ∙ and-false (nat_le from place)
-      ∙ sym (none_from c from n (λ i low h. (let within = takes_within c i n h in true≢false (sym h ∙ is.before i (omega (arith, within, past))))))
+      lt-ltb place (length c) within ∙ sym (taken_from c from place n low on)
+  | inr past ↦ le-ltb place (length c) past ∙ sym (none_later c from place n is past)
+]
+
+-- where it stands before, no step from there on does
+pub taken_earlier : (c : List Step) (from place n : ℕ) → length c ≤ nowhere → DropsLast c → IsTaken n c place → place < from → is_dropped (drop from c) n ≡ false
+taken_earlier c from place n few last is early = elim (cases_lt place (length c)) [
+  | inl within ↦
+      let on : takes_at c place n ≡ true = elim is.there [ inl on ↦ on | inr e ↦ absurd (omega (arith, e, within, few)) ] in
+      none_from c from n (λ i low h. true≢false (sym (named_there c i n h) ∙ behind_take c place i n last on (omega (arith, early, low))))
+  | inr past ↦ none_later c from place n is past
 ]

@@ -26,7 +26,7 @@ loop-i-preserved c =
     let n = c.args.n in
     let from = c.args.from in
     let i = c.loop-i.i in
-    let s = step_of c.step-2.result.now in
+    let s = step_of c.step-in-loop-i.result.now in
     let below = c.loop-i-test.true in
     let low = c.loop-i.invariant.low in
     let high = c.loop-i.invariant.past in
@@ -41,7 +41,7 @@ loop-i-preserved c =
       given =
           ap (option_map (λ t. t.now)) c.or-given.ensures ∙ newer (λ t. t.now) c.relabel_by.result c.loop-i.given
           ∙ ap (λ o. option_or o (option_map (λ t. t.now) c.loop-i.given)) c.relabel_by.ensures ∙ ap (option_or (relabel_by s n)) c.loop-i.invariant.given
-          ∙ relabelled_more f s n from i c.next_naming-i-in-loop-i.result low c.step-2.ensures next;
+          ∙ relabelled_more f s n from i c.next_naming-i-in-loop-i.result low c.step-in-loop-i.ensures next;
       none = none_more f (step_of c.step.result.now) n (c.loop-i.past - 1) c.step.ensures (subst (λ k. relabelled (drop k f) n ≡ None) back c.loop-i.invariant.none)
           (sym c.relabel_by-last.ensures ∙ none_mapped (λ t. t.now) c.relabel_by-last.result (sym c.is_some.ensures ∙ c.if-is_some.false));
     }
