@@ -53,6 +53,9 @@ steps_left g l = length (lines_left g l) + turns_left l.stage (length g.allocate
 
 -- what was given is the first of what was left, and the rest is left
 pub record Gave (before after left rest : List ℕ) : Type 0 where
+  -- the lines that were given
   pub lines : List ℕ
+  -- they stand behind what was there
   pub given : after ≡ before ++ lines
+  -- and in front of the rest
   pub left_is : left ≡ lines ++ rest

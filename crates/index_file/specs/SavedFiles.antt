@@ -7,14 +7,17 @@ use Rattle.index_api.specs.declared.kinds.Via.{Via}
 
 -- a partition, and the index of which it is
 pub record SavedView : Type 0 where
+  -- the index
   pub via : Via
   -- at each number the rank of that node's block; none where the node is gone
   pub block_of : List (Option ℕ)
 
 pub record SavedFile : Type 0 where
+  -- the graph of the file
   pub graph : Graph
   -- the highest level of the A(k)-family
   pub k : ℕ
+  -- the partitions, in the order of the file
   pub views : List SavedView
 
 -- the labels that were seen, and then those of the live nodes that weren't, each once, in the order of their first nodes

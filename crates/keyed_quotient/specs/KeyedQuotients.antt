@@ -15,9 +15,11 @@ pub record ReservedKeys : Type 0 where
   pub span : ℕ
 
 pub record KeyedQuotient : Type 0 where
+  -- the blocks and their supports
   pub quotient : Quotient
   -- for each number the key of that block, or none where the number is no block
   pub keys : List (Option (List ℕ))
+  -- what is reserved
   pub reserved : ReservedKeys
 
 -- it is stored as its parts

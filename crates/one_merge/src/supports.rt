@@ -63,7 +63,7 @@ fn add_neighbours(
     Ok(())
 }
 
-// Lists the neighbours of a block on a side as shown, in place of what the list held.
+// Makes the list that of the neighbours of a block on a side as shown.
 fn fill_neighbours(
     base: &Summary,
     draft: &Draft,

@@ -81,10 +81,14 @@ pub record IsSupported (v : View) (from onto : ℕ) : Type 0 where
 
 -- the quotient is a 1-index of the graph before the change, and the change is new
 pub record IsBefore (a : Pending) (q : Quotient) : Type 0 where
+  -- the quotient is a 1-index of the graph
   pub fits : FitsOne a.before (view_of q)
+  -- no step does what is done already
   pub new : IsNew a.change a.before
+  -- the graph is one, before the change and after it
   pub graph : IsGraph a.before
   pub graph_after : IsGraph (after a.change a.before)
+  -- edges and nodes are within what their counts can hold
   pub few : set.len a.before.edges ≤ 2 ^ 30
   pub small : length a.before.allocated ≤ 2 ^ 30
 

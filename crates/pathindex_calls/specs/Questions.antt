@@ -26,8 +26,11 @@ use Rattle.any_index.specs.AnyMeanings.{meaning_of}
 
 -- A text was asked, where these are the queries that it spells.
 pub record Asks (spells : Query → Type 0) (asked : List ℕ) (via : Via) (s t : SessionOf) (reply : Reply) : Type 0 where
+  -- what the session answers
   pub answer : Result How QueryError
+  -- the reply says it
   pub reply_is : reply ≡ of_answer answer (length t.nodes)
+  -- the answer is that to a query which the text spells
   pub answers : AnswersText spells (is_past program_limits asked) s t via answer
   pub keeps : KeepsAllButViews (engine_in s) (engine_in t)
   pub names : t.names ≡ s.names
@@ -37,9 +40,13 @@ pub record Asks (spells : Query → Type 0) (asked : List ℕ) (via : Via) (s t 
 
 -- It was asked why a node answers.
 pub record Explains (asked : List ℕ) (v : ℕ) (s t : SessionOf) (reply : Reply) : Type 0 where
+  -- what the session answers
   pub answer : Result Bool QueryError
+  -- the reply says it
   pub reply_is : reply ≡ of_why answer (length t.walk)
+  -- the answer is that to the question why
   pub explained : ExplainsText asked (is_past program_limits asked) s t v answer
+  -- without a walk the list of nodes stays
   pub no_walk : answer ≡ Ok false → t.walk ≡ s.walk
   pub err : OnErr answer (t.walk ≡ s.walk)
   pub engine : t.engine ≡ s.engine
@@ -49,8 +56,11 @@ pub record Explains (asked : List ℕ) (v : ℕ) (s t : SessionOf) (reply : Repl
 
 -- It was asked whether a list of nodes shows that one answers.
 pub record Checks (asked : List ℕ) (v : ℕ) (walk : List ℕ) (s : SessionOf) (reply : Reply) : Type 0 where
+  -- what the session answers
   pub answer : Result Bool QueryError
+  -- the reply says it
   pub reply_is : reply ≡ of_check answer
+  -- the answer tells whether the list of nodes shows it
   pub checked : ChecksText asked (is_past program_limits asked) s v walk answer
 
 -- The blocks of an index were listed.
@@ -76,8 +86,11 @@ pub record Lists (via : Via) (s t : SessionOf) (reply : Reply) : Type 0 where
 
 -- The sizes were listed.
 pub record Measures (s t : SessionOf) (reply : Reply) : Type 0 where
+  -- what the session answers
   pub answer : Result ⊤ Memory
+  -- the reply says it
   pub reply_is : reply ≡ of_sizes answer (length t.text)
+  -- the text lists the sizes of the indexes
   pub measured : OnOk answer (ListsSizes (graph_of s) (kept_in (engine_in s)) t.text)
   pub keeps : KeepsAllButViews (engine_in s) (engine_in t)
   pub names : t.names ≡ s.names
@@ -87,8 +100,11 @@ pub record Measures (s t : SessionOf) (reply : Reply) : Type 0 where
 
 -- The index file of the graph and of its indexes was made.
 pub record Saves (s t : SessionOf) (reply : Reply) : Type 0 where
+  -- what the session answers
   pub answer : Result ⊤ Memory
+  -- the reply says it
   pub reply_is : reply ≡ of_sizes answer (length t.text)
+  -- the text is a saved file of the graph and its indexes
   pub saved : OnOk answer (SavesFile (graph_of s) (kept_in (engine_in s)) t.text)
   -- one file alone is spelled so, if each node's label is one
   pub whole : OnOk answer (HasLabels (graph_of s) → IsIndexFile (graph_of s) (kept_in (engine_in s)) t.text)
@@ -100,10 +116,15 @@ pub record Saves (s t : SessionOf) (reply : Reply) : Type 0 where
 
 -- The index of a kind was dropped.
 pub record Forgets (kind : Kind) (s t : SessionOf) (reply : Reply) : Type 0 where
+  -- what the session answers
   pub answer : Result ⊤ Refusal
+  -- the reply says it
   pub reply_is : reply ≡ of_forget answer
+  -- the index isn't kept any more
   pub forgotten : IsForgotten kind (engine_in s) (engine_in t)
+  -- it is refused exactly if the index isn't kept
   pub no_index : (answer ≡ Err NoIndex) ↔ (has_kind (engine_kinds meaning_of s.engine) kind ≡ false)
+  -- and for no other reason
   pub no_other : (r : Refusal) → answer ≡ Err r → r ≡ NoIndex
   pub names : t.names ≡ s.names
   pub keeps : KeepsFound s t

@@ -22,7 +22,7 @@ pub struct Held {
     reply: Reply,
 }
 
-// Opens a session in the place of one that was closed.
+// Opens a session where there is none.
 fn open_session(alloc: Global, session: &mut Option<Session>, kept: Indexes, text: &[u8]) -> Reply
     requires level { kept.k ≤ 8 }
     requires closed { session.old ≡ None }

@@ -60,18 +60,24 @@ IsExplained false g e v walk = IsAnswer (shape_of g) e v → ⊥
 pub record ExplainsText (text : List ℕ) (is_past : Bool) (s t : SessionOf) (v : ℕ) (result : Result Bool QueryError) : Type 0 where
   -- the least walk that shows it is found, or there is none
   pub found : IfOk result (λ b. (e : Expr) × Spells text e × IsExplained b (graph_of s) e v t.walk)
+  -- the text is refused exactly if it is past a limit
   pub limit : (result ≡ Err (Refused Limit)) ↔ IsTrue is_past
   -- else it is refused only where the node isn't live
   pub no_node : result ≡ Err (Refused NoNode) → is_live (graph_of s) v ≡ false
+  -- and then it is
   pub live : is_live (graph_of s) v ≡ false → (b : Bool) → result ≢ Ok b
   -- and for no other reason
   pub only : (r : Refusal) → result ≡ Err (Refused r) → (r ≡ Limit) ⊎ (r ≡ NoNode)
+  -- the text spells no expression
   pub syntax : result ≡ Err Syntax → (e : Expr) → Spells text e → ⊥
 
 -- What a session answers to the question whether a list of nodes shows why a node answers the expression that a text spells.
 pub record ChecksText (text : List ℕ) (is_past : Bool) (s : SessionOf) (v : ℕ) (walk : List ℕ) (result : Result Bool QueryError) : Type 0 where
+  -- it answers whether the list shows it
   pub checked : IfOk result (λ b. (e : Expr) × Spells text e × (IsTrue b ↔ Shows (shape_of (graph_of s)) e v walk))
+  -- the text is refused exactly if it is past a limit
   pub limit : (result ≡ Err (Refused Limit)) ↔ IsTrue is_past
   -- it is refused for no other reason
   pub only : (r : Refusal) → result ≡ Err (Refused r) → r ≡ Limit
+  -- the text spells no expression
   pub syntax : result ≡ Err Syntax → (e : Expr) → Spells text e → ⊥

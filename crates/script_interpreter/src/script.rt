@@ -208,7 +208,7 @@ fn ending_of(in_group: bool, refused: bool) -> Ending
 /// Runs the script that is open, on the graph of the engine, to its end or to a line that is bad. By the names triples
 /// are inserted and deleted: the numbers of terms and triples in that graph. O(t) for t bytes of the script, and what the
 /// commands cost (`Engine`, `Names`); it takes memory for a block of the script, its longest line, and what is gathered of
-/// the output. Of an index file one part at a time is in memory: the graph, or a view.
+/// the output. Of an index file one part at a time is in memory: 64 KiB of the lines of the graph, or a view.
 pub fn run_lines<B: PathIndex, H: Shelf, K: Sink>(
     alloc: Global,
     engine: &mut Engine<B>,

@@ -9,7 +9,9 @@ use Rattle.triple_names.specs.Items.{Item, of_term, of_triple, same_triple}
 
 -- each term, and each triple, that was ever given a number, with the last one
 pub record Names : Type 0 where
+  -- the number of each term
   pub terms : List (Term × ℕ)
+  -- the number of each triple
   pub triples : List (Triple × ℕ)
 
 abbrev pub no_names : Names
