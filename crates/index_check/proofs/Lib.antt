@@ -9,6 +9,6 @@ pub mod ClosedKeys
 pub mod MinimalLaws
 pub mod Renamed
 pub mod ViaLaws
-pub mod ActiveGroups
+pub mod MoveLaws
+pub mod ChangeLaws
 pub mod ActiveLaws
-pub mod ActiveRounds

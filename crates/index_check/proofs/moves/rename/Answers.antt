@@ -1,7 +1,7 @@
 use Rattle.std.proofs.Common.{arith, ◌∙◌, ap, set}
 use Rattle.index_check.specs.Active.{number_in}
-use Rattle.index_check.proofs.ActiveGroups.{renamed_more}
-use Rattle.index_check.proofs.active.rename.Goals as goal
+use Rattle.index_check.proofs.MoveLaws.{renamed_more}
+use Rattle.index_check.proofs.moves.rename.Goals as goal
 
 pub loop-i-preserved : goal.loop-i-preserved
 loop-i-preserved c = record {

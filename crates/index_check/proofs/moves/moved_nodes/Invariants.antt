@@ -1,6 +1,6 @@
 use Rattle.std.proofs.Common.{◌≤◌, length}
 use Rattle.index_check.specs.Active.{AreMoved}
-use Rattle.index_check.proofs.active.moved_nodes.Given as goal
+use Rattle.index_check.proofs.moves.moved_nodes.Given as goal
 
 abbrev pub invariant-loop-i : goal.invariant-loop-i
 invariant-loop-i l = record {

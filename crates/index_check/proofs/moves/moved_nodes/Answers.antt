@@ -1,6 +1,6 @@
 use Rattle.std.proofs.Common.{◌≡◌, ℕ, arith, length, subst}
 use Rattle.index_check.specs.Active.{AreMoved}
-use Rattle.index_check.proofs.active.moved_nodes.Goals as goal
+use Rattle.index_check.proofs.moves.moved_nodes.Goals as goal
 
 pub returns : goal.returns
 returns c =

@@ -1,6 +1,6 @@
 use Rattle.std.proofs.Common.{◌≤◌, length}
 use Rattle.index_check.specs.Active.{AreRenamed}
-use Rattle.index_check.proofs.active.rename.Given as goal
+use Rattle.index_check.proofs.moves.rename.Given as goal
 
 abbrev pub invariant-loop-i : goal.invariant-loop-i
 invariant-loop-i l = record {
