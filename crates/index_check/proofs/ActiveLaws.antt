@@ -15,10 +15,14 @@ use Rattle.bisim_spec.proofs.Settled.{fb_settled, fb_each}
 use Rattle.bisim_spec.proofs.Stable.{stable_both_within}
 use Rattle.bisim_spec.proofs.Together.{together_some}
 use Rattle.index_check.specs.ComparedLists.{Determines}
-use Rattle.index_check.specs.Active.{number_in, IsClosed, IsCoarse, IsOnTheWay, AreAllNodes, AreAlike, AreGrouped, renamed, AreMoved, AreMoves, AreRenamed, StayTogether, is_shared, is_beside, AreAround, IsCaughtUp}
+use Rattle.index_check.specs.Active.{number_in, IsClosed, IsCoarse, IsNextWay, IsOnTheWay, AreAllNodes, AreAlike, AreGrouped, AreLevels, renamed, AreMoved, AreMoves, AreRenamed, StayTogether, is_shared, is_beside, AreAround, IsCaughtUp}
+use Rattle.hash_index.specs.Items.{Items}
 use Rattle.index_check.specs.Changes.{AreBlocksOf}
+use Rattle.index_check.specs.Listing.{IsListed, IsWidened, ListsMoved}
+use Rattle.index_check.specs.Watches.{DiffersOnlyAt}
 use Rattle.index_check.proofs.NeighbourBlocks.{place_of}
-use Rattle.index_check.proofs.MoveLaws.{new_at, kept_at, are_moves, moves_from, caught_all}
+use Rattle.index_check.proofs.MoveLaws.{new_at, kept_at, are_moves, moves_from, others_stay, caught_all}
+use Rattle.index_check.proofs.ListingLaws.{listed_still, widened_closed}
 
 -- tests of lists
 
@@ -106,15 +110,6 @@ grouped_fb s before now moved active groups shape w g = record {
   alike = λ i j hi hj r. g.alike i j hi hj (fb_alike s before now shape w.was_coarse w.coarse (number_in active i) (number_in active j) r);
 }
 
--- nodes of one level have the blocks of the next one as their groups
-pub level_grouped : (s : Shape) (next : List (Option ℕ)) (i : ℕ) (nodes groups : List ℕ) → IsShape s → Agrees s next (Both s i) → AreBlocksOf next nodes groups → AreGrouped (FB s) nodes groups
-level_grouped s next i nodes groups shape a w = record {
-  length_is = w.length_is;
-  alike = λ j k hj hk r.
-      let t = (level_coarse s next i shape a).together (number_in nodes j) (number_in nodes k) r in
-      w.each j t.0 hj t.1 ∙ sym (w.each k t.0 hk t.2);
-}
-
 -- a level is no finer than full bisimilarity
 pub level_coarse : (s : Shape) (block : List (Option ℕ)) (i : ℕ) → IsShape s → Agrees s block (Both s i) → IsCoarse s block
 level_coarse s block i shape a = record {
@@ -124,10 +119,19 @@ level_coarse s block i shape a = record {
       a.grouped u v (label_node s u v l) (label_node s v u (label_sym s u v l)) (fb_each s shape i u v r);
 }
 
+-- nodes of one level have the blocks of the next one as their groups
+pub level_grouped : (s : Shape) (block next : List (Option ℕ)) (nodes groups : List ℕ) → IsShape s → AreLevels s block next → AreBlocksOf next nodes groups → AreGrouped (FB s) nodes groups
+level_grouped s block next nodes groups shape l w = record {
+  length_is = w.length_is;
+  alike = λ j k hj hk r.
+      let t = (level_coarse s next (l.level + 1) shape l.is_next).together (number_in nodes j) (number_in nodes k) r in
+      w.each j t.0 hj t.1 ∙ sym (w.each k t.0 hk t.2);
+}
+
 -- no round was yet
-pub way_start : (s : Shape) (block : List (Option ℕ)) (i : ℕ) → IsShape s → Agrees s block (Both s i) → IsOnTheWay s block block []
-way_start s block i shape a =
-    let w = level_coarse s block i shape a in
+pub way_start : (s : Shape) (block next : List (Option ℕ)) → IsShape s → AreLevels s block next → IsOnTheWay s block block []
+way_start s block next shape l =
+    let w = level_coarse s block l.level shape l.is_level in
     record {
       was_coarse = w;
       coarse = w;
@@ -213,18 +217,60 @@ coarse_same s a b same w = record {
   together = λ u v r. let t = w.together u v r in (t.0, same u ∙ t.1, same v ∙ t.2);
 }
 
--- a round leads on
+-- what a round leaves, whatever it was over
 pub round_way : (s : Shape) (before after old new : List (Option ℕ)) (moved active groups names next : List ℕ) → IsShape s → IsOnTheWay s before old moved → IsClosed s active
     → AreGrouped (FB s) active groups → AreMoved old active groups names (length active) next → AreRenamed old new active groups names (length active) → IsCaughtUp before old moved after
-    → IsOnTheWay s after new next
+    → IsNextWay s old after new next
 round_way s before after old new moved active groups names next shape w closed g m c up =
     let together : (u v : ℕ) → FB s u v → Together new u v = stay s old new active groups names w.coarse closed g c in
     let same = caught_all s before old after moved w.was_coarse.partition w.coarse.partition w.moves up in
     record {
-      was_coarse = coarse_same s old after same w.coarse;
-      coarse = record { partition = new_partition s old new active groups names shape w.coarse.partition c together; together = together };
-      moves = moves_from old after new next same (are_moves old new active groups names next m c);
+      way = record {
+        was_coarse = coarse_same s old after same w.coarse;
+        coarse = record { partition = new_partition s old new active groups names shape w.coarse.partition c together; together = together };
+        moves = moves_from old after new next same (are_moves old new active groups names next m c);
+      };
+      was = same;
     }
+
+-- over lists that were handed on
+pub round_handed : (s : Shape) (before before2 after after2 old old2 old3 old4 new new2 : List (Option ℕ)) (moved moved2 active groups names names2 names3 next : List ℕ) → IsShape s
+    → IsOnTheWay s before old moved → IsClosed s active → AreGrouped (FB s) active groups → old2 ≡ old → names2 ≡ names
+    → AreMoved old2 active groups names2 (length active) next → old4 ≡ old → names3 ≡ names → AreRenamed old4 new active groups names3 (length active) → before2 ≡ before
+    → old3 ≡ old → moved2 ≡ moved → IsCaughtUp before2 old3 moved2 after → after2 ≡ after → new2 ≡ new → IsNextWay s old after2 new2 next
+round_handed s before before2 after after2 old old2 old3 old4 new new2 moved moved2 active groups names names2 names3 next shape w closed g eo en m eo4 fn c eb eo3 em up ea ew =
+    subst (λ x. IsNextWay s old x new2 next) (sym ea)
+    (subst (λ x. IsNextWay s old after x next) (sym ew)
+    (round_way s before after old new moved active groups names next shape w closed g
+    (subst (λ o. AreMoved o active groups names (length active) next) eo (subst (λ y. AreMoved old2 active groups y (length active) next) en m))
+    (subst (λ o. AreRenamed o new active groups names (length active)) eo4 (subst (λ y. AreRenamed old4 new active groups y (length active)) fn c))
+    (subst (λ x. IsCaughtUp x old moved after) eb (subst (λ o. IsCaughtUp before2 o moved after) eo3 (subst (λ q. IsCaughtUp before2 old3 q after) em up)))))
+
+pub listed_next : (s : Shape) (old before now now2 : List (Option ℕ)) (moved moved2 : List ℕ) (lists lists2 : Items ℕ) → IsNextWay s old before now moved → IsListed old lists → now2 ≡ now
+    → moved2 ≡ moved → ListsMoved now2 moved2 lists lists2 → IsListed now lists2
+listed_next s old before now now2 moved moved2 lists lists2 w l en em m =
+    listed_still old now moved lists lists2 l (moves_from before old now moved (λ n. sym (w.was n)) w.way.moves)
+    (subst (λ x. ListsMoved x moved lists lists2) en (subst (λ q. ListsMoved now2 q lists lists2) em m))
+
+pub differs_next : (s : Shape) (old before now now2 : List (Option ℕ)) (moved moved2 : List ℕ) → IsNextWay s old before now moved → now2 ≡ now → moved2 ≡ moved → DiffersOnlyAt old now2 moved2
+differs_next s old before now now2 moved moved2 w en em = λ n off.
+    ap (λ x. at x n) en ∙ others_stay before now moved w.way.moves n (sym (ap (λ q. has q n) em) ∙ off) ∙ w.was n
+
+pub closed_handed : (s : Shape) (active active2 : List ℕ) → active2 ≡ active → IsClosed s active → IsClosed s active2
+closed_handed s active active2 e closed = subst (IsClosed s) (sym e) closed
+
+pub grouped_handed : (s : Shape) (before now : List (Option ℕ)) (moved active active2 active3 groups groups2 : List ℕ) → IsShape s → IsOnTheWay s before now moved → active2 ≡ active
+    → AreGrouped (AreAlike s.edge before now) active2 groups → active3 ≡ active → groups2 ≡ groups → AreGrouped (FB s) active3 groups2
+grouped_handed s before now moved active active2 active3 groups groups2 shape w e g f eg =
+    grouped_fb s before now moved active3 groups2 shape w
+    (subst (λ y. AreGrouped (AreAlike s.edge before now) active3 y) (sym eg) (subst (λ x. AreGrouped (AreAlike s.edge before now) x groups) (e ∙ sym f) g))
+
+pub around_handed : (s : Shape) (before now now2 now3 : List (Option ℕ)) (moved moved2 members near near2 active : List ℕ) → IsShape s → IsOnTheWay s before now moved → now2 ≡ now
+    → moved2 ≡ moved → AreAround s.edge now2 members moved2 near → now3 ≡ now → near2 ≡ near → IsWidened now3 near2 active → IsClosed s active
+around_handed s before now now2 now3 moved moved2 members near near2 active shape w en em a fn fe v =
+    widened_closed s now near active w.coarse
+    (around_closed s before now moved members near shape w (subst (λ x. AreAround s.edge x members moved near) en (subst (λ q. AreAround s.edge now2 members q near) em a)))
+    (subst (λ x. IsWidened x near active) fn (subst (λ y. IsWidened now3 y active) fe v))
 
 -- stable blocks that are determined by a partition that is no finer than full bisimilarity are that
 pub found_full : (s : Shape) (block coarse : List (Option ℕ)) → StableBoth s block → IsCoarse s coarse → Determines coarse block → Agrees s block (FB s)

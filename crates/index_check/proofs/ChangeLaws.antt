@@ -1,5 +1,5 @@
 -- Numbers of active nodes by what a round changed about their neighbours.
-use Rattle.std.proofs.Common.{◌≡◌, ◌≢◌, ℕ, zero, suc, ◌+◌, ◌<◌, ◌≤◌, ◌⊎◌, List, [], ◌∷◌, ◌++◌, length, Option, Some, None, IfSome, IsTrue, refl, sym, ◌∙◌, ap, subst, arith, inl, inr, true, false, Bool, true≢false, slice_get, get_or, take}
+use Rattle.std.proofs.Common.{◌≡◌, ◌≢◌, ℕ, zero, suc, ◌+◌, ◌<◌, ◌≤◌, ◌⊎◌, List, [], ◌∷◌, ◌++◌, length, Option, Some, None, IfSome, IsTrue, refl, sym, ◌∙◌, ap, subst, arith, inl, inr, true, false, Bool, true≢false, slice_get, get_or, take, filter_map}
 use Rattle.std.specs.Prelude.{◌||◌, nat_eq}
 use Rattle.std.specs.List.{insert}
 use Rattle.std.specs.List.Sorted.{IsStrictlyIncreasing}
@@ -11,8 +11,8 @@ use Rattle.key_table.specs.NumberedKeys.{AreDistinct, Interns}
 use Rattle.graph_spec.specs.Members.{at, has}
 use Rattle.graph_spec.proofs.MemberLaws.{has_push, has_more}
 use Rattle.bisim_spec.specs.Partitions.{Together}
-use Rattle.bisim_spec.specs.NodeKeys.{AreImages}
-use Rattle.bisim_spec.proofs.RisingLists.{rising_unique}
+use Rattle.bisim_spec.specs.NodeKeys.{AreImages, IsSetOf}
+use Rattle.bisim_spec.proofs.RisingLists.{images_set, rising_unique}
 use Rattle.bisim_spec.specs.declared.sides.Side.TheVariants.{Parents, Children}
 use Rattle.index_check.specs.NeighbourSides.{is_neighbour}
 use Rattle.index_check.specs.Active.{number_in, AreAlike, AreGrouped, AreMoves, StayTogether}
@@ -26,7 +26,7 @@ use Rattle.index_check.proofs.NumberedNodes.{interned_at, interned_stays}
 item_before : (xs : List ℕ) (n k m : ℕ) → k < length xs → slice_get (xs ++ n ∷ []) k ≡ Some m → slice_get xs k ≡ Some m
 item_before [] n k m h e = absurd (omega (arith, h))
 item_before (x ∷ xs) n zero m h e = e
-item_before (x ∷ xs) n (suc k) m h e = item_before xs n k m (let l : suc k < length xs + 1 = h in omega (arith, l)) e
+item_before (x ∷ xs) n (suc k) m h e = item_before xs n k m (let l : suc k < suc (length xs) = h in omega (arith, l)) e
 
 -- what is on a list was before, or is the new item
 on_only : (old : Items ℕ) (c n b m : ℕ) → length old.hashes ≡ length old.items → IsOn (with_item old c n) b m → IsOn old b m ⊎ ((b ≡ c) × (m ≡ n))
@@ -165,6 +165,10 @@ reads_all near n nodes w = record {
   every = λ p on. elim (w.seen p on) [ inl none ↦ absurd (omega (arith, none)) | inr met ↦ met ];
 }
 
+-- numbers that are written into an empty list
+pub images_of : (f : ℕ → Option ℕ) (nodes empty numbers set : List ℕ) → empty ≡ [] → numbers ≡ empty ++ filter_map f nodes → IsSetOf numbers set → AreImages f nodes set
+images_of f nodes empty numbers set none e s = images_set f nodes set (subst (λ xs. IsSetOf xs set) (e ∙ ap (λ xs. xs ++ filter_map f nodes) none) s)
+
 -- blocks that all neighbours left
 
 pub loses_start : (neighbour_of : ℕ → ℕ → Bool) (now : List (Option ℕ)) (n : ℕ) (old : List ℕ) → LosesSome neighbour_of now n [] old old
@@ -230,6 +234,17 @@ changes_of neighbour_of before now n near around gains left key set w on gain lo
       same b ∙ lost.put b (lose.every l.neighbour b (on.every l.neighbour (w.every n l.neighbour l.is_one moves)) l.was_there) l.left;
 }
 
+pub changes_handed : (neighbour_of : ℕ → ℕ → Bool) (before before2 now now2 now3 : List (Option ℕ)) (n : ℕ) (near : Items ℕ) (around around2 around3 gains left left2 key set : List ℕ)
+    → AreNear neighbour_of before now near → AreOn near n around → around2 ≡ around → now2 ≡ now → AreImages (at now2) around2 gains → around3 ≡ around → before2 ≡ before
+    → AreImages (at before2) around3 left → now3 ≡ now → left2 ≡ left → LosesSome neighbour_of now3 n left2 gains key → IsStrictlyIncreasing set
+    → ((b : ℕ) → has set b ≡ has key b) → AreChanges neighbour_of before now n set
+changes_handed neighbour_of before before2 now now2 now3 n near around around2 around3 gains left left2 key set w on ea en gain ea3 eb lose en3 el lost rising same =
+    changes_of neighbour_of before now n near around gains left key set w on
+    (subst (λ l. AreImages (at l) around gains) en (subst (λ a. AreImages (at now2) a gains) ea gain))
+    (subst (λ l. AreImages (at l) around left) eb (subst (λ a. AreImages (at before2) a left) ea3 lose))
+    (subst (λ l. LosesSome neighbour_of l n left gains key) en3 (subst (λ a. LosesSome neighbour_of now3 n a gains key) el lost))
+    rising same
+
 -- nodes that are the same have the same changes
 there_too : (neighbour_of : ℕ → ℕ → Bool) (before now : List (Option ℕ)) (u v b : ℕ)
     → ((p : ℕ) → IsTrue (neighbour_of p u) → (q : ℕ) × IsTrue (neighbour_of q v) × StayTogether before now p q)
@@ -284,11 +299,11 @@ takes_none neighbour_of before now table n own k none = record {
   number = λ b e. absurd (let z = none in cc);
 }
 
-pub takes_some : (neighbour_of : ℕ → ℕ → Bool) (before now : List (Option ℕ)) (old new : List (List ℕ)) (n own k : ℕ) (changes key : List ℕ)
-    → AreChanges neighbour_of before now n changes → key ≡ insert changes 0 own → Interns old new key k → TakesNumber neighbour_of before now old new n own k
-takes_some neighbour_of before now old new n own k changes key w whole i = record {
-  stay = interned_stays old new key k i;
-  number = λ b e. record { changes = changes; key_at = interned_at old new key k i ∙ ap Some whole; are_changes = w };
+pub takes_some : (neighbour_of : ℕ → ℕ → Bool) (before now : List (Option ℕ)) (old old2 new : List (List ℕ)) (n own k : ℕ) (changes key : List ℕ)
+    → AreChanges neighbour_of before now n changes → old2 ≡ old → key ≡ insert changes 0 own → Interns old2 new key k → TakesNumber neighbour_of before now old new n own k
+takes_some neighbour_of before now old old2 new n own k changes key w same whole i = record {
+  stay = λ j x e. interned_stays old2 new key k i j x (ap (λ t. slice_get t j) same ∙ e);
+  number = λ b e. record { changes = changes; key_at = interned_at old2 new key k i ∙ ap Some whole; are_changes = w };
 }
 
 -- the first i active nodes have numbers

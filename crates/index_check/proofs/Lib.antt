@@ -3,6 +3,7 @@ pub mod NeighbourBlocks
 pub mod OuterKeys
 pub mod ComparedLaws
 pub mod ListingLaws
+pub mod WatchLaws
 pub mod LevelLaws
 pub mod Stable
 pub mod ClosedKeys

@@ -167,7 +167,7 @@ caught_more before now mid new moved i d within w is = record {
 }
   where
     there : (n : ℕ) → n ≢ get_or moved i d → at new n ≡ at mid n
-    there n apart = ap (λ l. at l n) is ∙ get_or-set_other mid (get_or moved i d) n (at now (get_or moved i d)) None (λ e. apart (sym e))
+    there n apart = ap (λ l. at l n) is ∙ get_or-set_other mid (get_or moved i d) n (at now (get_or moved i d)) None apart
 
     was : (n : ℕ) → n ≢ get_or moved i d → has (take (i + 1) moved) n ≡ true → has (take i moved) n ≡ true
     was n apart h = elim (or_cases (has (take i moved) n) (nat_eq n (get_or moved i d)) (sym (has_more moved i d n within) ∙ h)) [

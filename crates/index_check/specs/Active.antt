@@ -1,11 +1,11 @@
 -- Rounds over the active nodes: those of which a neighbour went to another block.
-use Rattle.std.specs.Prelude.{ℕ, ◌≡◌, ◌≢◌, ◌<◌, ◌&&◌, ◌||◌, Bool, true, false, List, length, Option, None, Some, IsSome, IsTrue, nat_lt, slice_index_or}
+use Rattle.std.specs.Prelude.{ℕ, suc, ◌≡◌, ◌≢◌, ◌<◌, ◌&&◌, ◌||◌, Bool, true, false, List, length, Option, None, Some, IsSome, IsTrue, nat_lt, slice_index_or}
 use Rattle.std.specs.List.{list_any}
 use Rattle.std.specs.List.Sorted.{IsStrictlyIncreasing}
 use Rattle.graph_spec.specs.Shapes.{Shape}
 use Rattle.graph_spec.specs.Members.{at, has}
-use Rattle.bisim_spec.specs.Bisimilarity.{Matched, FB}
-use Rattle.bisim_spec.specs.Partitions.{Together, IsPartition}
+use Rattle.bisim_spec.specs.Bisimilarity.{Matched, Both, FB}
+use Rattle.bisim_spec.specs.Partitions.{Together, IsPartition, Agrees}
 use Rattle.bisim_spec.specs.declared.sides.Side.TheVariants.{Parents, Children}
 use Rattle.index_check.specs.NeighbourSides.{is_neighbour}
 
@@ -18,6 +18,12 @@ pub record IsCoarse (s : Shape) (block : List (Option ℕ)) : Type 0 where
   pub partition : IsPartition s block
   pub together : (u v : ℕ) → FB s u v → Together block u v
 
+-- a level by parents and children, and the one above it
+pub record AreLevels (s : Shape) (block next : List (Option ℕ)) : Type 0 where
+  pub level : ℕ
+  pub is_level : Agrees s block (Both s level)
+  pub is_next : Agrees s next (Both s (suc level))
+
 -- the nodes whose block is another one now
 pub record AreMoves (before now : List (Option ℕ)) (moved : List ℕ) : Type 0 where
   pub why : (n : ℕ) → has moved n ≡ true → at now n ≢ at before n
@@ -28,6 +34,11 @@ pub record IsOnTheWay (s : Shape) (before now : List (Option ℕ)) (moved : List
   pub was_coarse : IsCoarse s before
   pub coarse : IsCoarse s now
   pub moves : AreMoves before now moved
+
+-- the same after a round over the partition old
+pub record IsNextWay (s : Shape) (old before now : List (Option ℕ)) (moved : List ℕ) : Type 0 where
+  pub way : IsOnTheWay s before now moved
+  pub was : (n : ℕ) → at before n ≡ at old n
 
 -- with a node of these all that are bisimilar to it are among them
 abbrev pub IsClosed : Shape → List ℕ → Type 0

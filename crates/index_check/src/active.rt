@@ -2,25 +2,28 @@
 ghost use Rattle.std.specs.Prelude.{◌≡◌, ◌&&◌, ◌||◌, ℕ, List, Option, Bool, IsSome, IfOk, OnOk, length};
 ghost use Rattle.std.specs.List.Sorted.{IsStrictlyIncreasing};
 ghost use Rattle.graph_spec.specs.Members.{at, has};
-ghost use Rattle.bisim_spec.specs.Bisimilarity.{Both, FB};
-ghost use Rattle.bisim_spec.specs.Partitions.{Agrees};
+ghost use Rattle.graph_spec.specs.Shapes.{Shape, IsShape};
+ghost use Rattle.bisim_spec.specs.Bisimilarity.{FB};
 ghost use Rattle.index_check.specs.NumberedShapes.{digraph_shape};
 ghost use Rattle.index_check.specs.Active.{
   IsClosed,
   IsCoarse,
+  IsNextWay,
   IsOnTheWay,
   AreAllNodes,
+  AreLevels,
   AreGrouped,
   AreAround,
   is_shared,
   is_beside,
 };
+ghost use Rattle.index_check.specs.Changes.{AreBlocksOf};
 ghost use Rattle.index_check.specs.Listing.{IsListed};
 ghost use Rattle.index_check.specs.Watches.{IsWatched};
 
 use crate::changes::{Keys, blocks_of, group};
 use crate::keys::block_of;
-use crate::levels::{first_level, next_both};
+use crate::levels::first_levels;
 use crate::listing::{list_all, list_moved, with_rest};
 use crate::moves::{Parts, catch_up, moved_nodes, rename};
 use crate::part_sizes::{Sizes, is_shared, name_groups};
@@ -117,41 +120,46 @@ fn next_active<G: Digraph>(
         &books.sizes.members,
         &parts.moved,
     )?;
-    with_rest(
+    let active = with_rest(
         alloc,
         &books.lists,
         &parts.block,
         &mut books.sizes,
         &near,
-    )
+    )?;
+    Ok(active)
 }
 
 // Puts the active nodes into blocks by their groups.
-fn move_nodes<G: Digraph>(
+fn move_nodes(
     alloc: Global,
-    g: &G,
     parts: &mut Parts,
-    books: &mut Books,
+    sizes: &mut Sizes,
     active: &[u32],
     groups: &[u32],
 ) -> Result<(), Memory>
-    requires way { IsOnTheWay (digraph_shape G.Digraph g.now) parts.old.before.items parts.old.block.items parts.old.moved.items }
-    requires listed { IsListed parts.old.block.items books.old.lists }
-    requires watched { IsWatched (G.edge g.now) parts.old.block.items books.old.keys.watches }
     requires rising { IsStrictlyIncreasing active.now }
-    requires closed { IsClosed (digraph_shape G.Digraph g.now) active.now }
-    requires grouped { AreGrouped (FB (digraph_shape G.Digraph g.now)) active.now groups.now }
-    ensures way { OnOk result (IsOnTheWay (digraph_shape G.Digraph g.now) parts.new.before.items parts.new.block.items parts.new.moved.items) }
-    ensures listed { OnOk result (IsListed parts.new.block.items books.new.lists) }
-    ensures watched { OnOk result (IsWatched (G.edge g.now) parts.new.block.items books.new.keys.watches) }
+    requires groups { length groups.now ≡ length active.now }
+    ensures { OnOk result ((s : Shape) → IsShape s → IsOnTheWay s parts.old.before.items parts.old.block.items parts.old.moved.items
+        → IsClosed s active.now → AreGrouped (FB s) active.now groups.now
+        → IsNextWay s parts.old.block.items parts.new.before.items parts.new.block.items parts.new.moved.items) }
 {
-    let names = name_groups(alloc, &mut books.sizes, &parts.block, active, groups)?;
+    let names = name_groups(alloc, sizes, &parts.block, active, groups)?;
     let moved = moved_nodes(alloc, &parts.block, active, groups, &names)?;
     catch_up(&mut parts.before, &parts.block, &parts.moved);
     rename(&mut parts.block, active, groups, &names);
-    list_moved(&mut books.lists, &parts.block, &moved)?;
-    books.keys.watches.follow(g, &parts.block, &moved)?;
     parts.moved = moved;
+    Ok(())
+}
+
+// Writes down which nodes went to other blocks.
+fn note_moves<G: Digraph>(g: &G, parts: &Parts, books: &mut Books) -> Result<(), Memory>
+    ensures { OnOk result ((old : List (Option ℕ)) → IsNextWay (digraph_shape G.Digraph g.now) old parts.now.before.items parts.now.block.items parts.now.moved.items
+        → IsListed old books.old.lists → IsWatched (G.edge g.now) old books.old.keys.watches
+        → IsListed parts.now.block.items books.new.lists × IsWatched (G.edge g.now) parts.now.block.items books.new.keys.watches) }
+{
+    list_moved(&mut books.lists, &parts.block, &parts.moved)?;
+    books.keys.watches.follow(g, &parts.block, &parts.moved)?;
     Ok(())
 }
 
@@ -171,7 +179,9 @@ fn part_again<G: Digraph>(
 {
     let active = next_active(alloc, g, parts, books)?;
     let groups = group(alloc, &mut books.keys, g, parts, &active)?;
-    move_nodes(alloc, g, parts, books, &active, &groups)
+    move_nodes(alloc, parts, &mut books.sizes, &active, &groups)?;
+    note_moves(g, parts, books)?;
+    Ok(())
 }
 
 // Rounds until none moves a node. Each that does leaves more blocks, of which there are at most as many as nodes.
@@ -210,18 +220,16 @@ fn all_nodes(alloc: Global, size: u32, block: &[Option<u32>]) -> Result<Vec<u32>
     Ok(nodes)
 }
 
-// The groups of the nodes in the first round: those with neighbours in the same blocks.
-fn first_groups<G: Digraph>(
+// The groups of the nodes in the first round: their blocks in the next level, which isn't needed any more.
+fn first_groups(
     alloc: Global,
-    g: &G,
-    block: &[Option<u32>],
+    next: Vec<Option<u32>>,
     nodes: &[u32],
 ) -> Result<Vec<u32>, Memory>
-    requires level { (i : ℕ) × Agrees (digraph_shape G.Digraph g.now) block.now (Both (digraph_shape G.Digraph g.now) i) }
-    ensures { IfOk result (λ l. AreGrouped (FB (digraph_shape G.Digraph g.now)) nodes.now l.items) }
+    ensures { IfOk result (λ l. AreBlocksOf next.items nodes.now l.items) }
 {
-    let next = next_both(alloc, g, block)?;
-    blocks_of(alloc, &next, nodes)
+    let groups = blocks_of(alloc, &next, nodes)?;
+    Ok(groups)
 }
 
 // The first round, in which all nodes are active.
@@ -229,33 +237,44 @@ fn part_first<G: Digraph>(
     alloc: Global,
     g: &G,
     parts: &mut Parts,
-    books: &mut Books,
+    sizes: &mut Sizes,
+    next: Vec<Option<u32>>,
 ) -> Result<(), Memory>
-    requires level { (i : ℕ) × Agrees (digraph_shape G.Digraph g.now) parts.old.block.items (Both (digraph_shape G.Digraph g.now) i) }
+    requires levels { AreLevels (digraph_shape G.Digraph g.now) parts.old.block.items next.items }
     requires way { IsOnTheWay (digraph_shape G.Digraph g.now) parts.old.before.items parts.old.block.items parts.old.moved.items }
-    requires listed { IsListed parts.old.block.items books.old.lists }
-    requires watched { IsWatched (G.edge g.now) parts.old.block.items books.old.keys.watches }
-    ensures way { OnOk result (IsOnTheWay (digraph_shape G.Digraph g.now) parts.new.before.items parts.new.block.items parts.new.moved.items) }
-    ensures listed { OnOk result (IsListed parts.new.block.items books.new.lists) }
-    ensures watched { OnOk result (IsWatched (G.edge g.now) parts.new.block.items books.new.keys.watches) }
+    ensures { OnOk result (IsOnTheWay (digraph_shape G.Digraph g.now) parts.new.before.items parts.new.block.items parts.new.moved.items) }
 {
     let nodes = all_nodes(alloc, g.size(), &parts.block)?;
-    let groups = first_groups(alloc, g, &parts.block, &nodes)?;
-    move_nodes(alloc, g, parts, books, &nodes, &groups)
+    let groups = first_groups(alloc, next, &nodes)?;
+    move_nodes(alloc, parts, sizes, &nodes, &groups)?;
+    Ok(())
 }
 
-// All rounds over one of the levels.
-fn part_rounds<G: Digraph>(alloc: Global, g: &G, parts: &mut Parts) -> Result<(), Memory>
-    requires level { (i : ℕ) × Agrees (digraph_shape G.Digraph g.now) parts.old.block.items (Both (digraph_shape G.Digraph g.now) i) }
-    requires way { IsOnTheWay (digraph_shape G.Digraph g.now) parts.old.before.items parts.old.block.items parts.old.moved.items }
+// All rounds after the first one.
+fn part_on<G: Digraph>(alloc: Global, g: &G, parts: &mut Parts, sizes: Sizes) -> Result<(), Memory>
+    requires { IsOnTheWay (digraph_shape G.Digraph g.now) parts.old.before.items parts.old.block.items parts.old.moved.items }
     ensures { OnOk result (IsCoarse (digraph_shape G.Digraph g.now) parts.new.block.items) }
 {
-    let sizes = Sizes::new(alloc, &parts.block)?;
     let lists = list_all(alloc, &parts.block, g.size())?;
     let keys = Keys::new(alloc)?;
     let mut books = Books { sizes, lists, keys };
-    part_first(alloc, g, parts, &mut books)?;
     part_all(alloc, g, parts, &mut books)
+}
+
+// All rounds.
+fn part_rounds<G: Digraph>(
+    alloc: Global,
+    g: &G,
+    parts: &mut Parts,
+    next: Vec<Option<u32>>,
+) -> Result<(), Memory>
+    requires levels { AreLevels (digraph_shape G.Digraph g.now) parts.old.block.items next.items }
+    requires way { IsOnTheWay (digraph_shape G.Digraph g.now) parts.old.before.items parts.old.block.items parts.old.moved.items }
+    ensures { OnOk result (IsCoarse (digraph_shape G.Digraph g.now) parts.new.block.items) }
+{
+    let mut sizes = Sizes::new(alloc, &parts.block)?;
+    part_first(alloc, g, parts, &mut sizes, next)?;
+    part_on(alloc, g, parts, sizes)
 }
 
 /// A partition that is no finer than full bisimilarity by parents and children. It is that, once a round moves no node.
@@ -269,17 +288,17 @@ fn part_rounds<G: Digraph>(alloc: Global, g: &G, parts: &mut Parts) -> Result<()
 ///
 /// The first levels take 24 bytes a number, and a table of keys. Then it takes 16 bytes a number, 12 for each block, 20 for each number and for
 /// each time that a node goes to another block, and in a round 24 bytes for each neighbour of those that went to another block, and 32 and
-/// the key for each active node. A table that grows may take twice as much.
+/// the key for each active node. A table that grows may take twice as much. `Watches` says what lists of neighbours take.
 pub(crate) fn part_active<G: Digraph>(alloc: Global, g: &G) -> Result<Vec<Option<u32>>, Memory>
     ensures { IfOk result (λ l. IsCoarse (digraph_shape G.Digraph g.now) l.items) }
 {
-    let block = first_level(alloc, g, FIRST)?;
+    let (block, next) = first_levels(alloc, g, FIRST)?;
     let before = block.to_vec(alloc)?;
     let mut parts = Parts {
         block,
         before,
         moved: Vec::new(alloc),
     };
-    part_rounds(alloc, g, &mut parts)?;
+    part_rounds(alloc, g, &mut parts, next)?;
     Ok(parts.block)
 }

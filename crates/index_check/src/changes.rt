@@ -64,9 +64,9 @@ fn across(side: Side) -> Side
 fn put_near(near: &mut HashIndex<u32>, nodes: &[u32], q: u32) -> Result<(), Memory>
     ensures { OnOk result (PutsNear (has nodes.now) q near.old near.new) }
 {
-    // Called for its contract: each node on a list has the number of that.
-    let _known = near.len();
     for n in nodes {
+        // Called for its contract: each node on a list has the number of that.
+        let _known = near.len();
         near.push(*n, q)?;
     }
     Ok(())
@@ -84,7 +84,8 @@ fn put_beside<G: Digraph>(
     if !g.is_node(q) {
         return Ok(());
     }
-    put_near(near, neighbours(g, across(side), q), q)
+    put_near(near, neighbours(g, across(side), q), q)?;
+    Ok(())
 }
 
 // Makes for each node a list of those of its neighbours on one side that moved.
@@ -311,5 +312,6 @@ pub(crate) fn group<G: Digraph>(
 {
     let own = blocks_of(alloc, &parts.block, active)?;
     let mid = part_side(alloc, keys, g, parts, Side::Parents, active, &own)?;
-    part_side(alloc, keys, g, parts, Side::Children, active, &mid)
+    let groups = part_side(alloc, keys, g, parts, Side::Children, active, &mid)?;
+    Ok(groups)
 }
