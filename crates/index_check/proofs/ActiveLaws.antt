@@ -1,5 +1,5 @@
 -- A round over the active nodes keeps a partition no finer than full bisimilarity.
-use Rattle.std.proofs.Common.{◌≡◌, ◌≢◌, ℕ, ◌+◌, ◌<◌, ◌≤◌, List, [], ◌∷◌, ◌++◌, length, Option, Some, None, is_some, refl, sym, ◌∙◌, ap, subst, arith, inl, inr, true, false, Bool, true≢false}
+use Rattle.std.proofs.Common.{◌≡◌, ◌≢◌, ℕ, suc, ◌+◌, ◌<◌, ◌≤◌, List, [], ◌∷◌, ◌++◌, length, Option, Some, None, is_some, refl, sym, ◌∙◌, ap, subst, arith, inl, inr, true, false, Bool, true≢false}
 use Rattle.std.specs.Prelude.{◌||◌, ◌&&◌, nat_eq}
 use Rattle.std.specs.List.{list_any}
 use Rattle.std.proofs.lemmas.Bool.{cases_lt, cases_Bool, both_ways, or_cases, or_left, or_right, and_parts, and_from}
@@ -124,7 +124,7 @@ pub level_grouped : (s : Shape) (block next : List (Option ℕ)) (nodes groups :
 level_grouped s block next nodes groups shape l w = record {
   length_is = w.length_is;
   alike = λ j k hj hk r.
-      let t = (level_coarse s next (l.level + 1) shape l.is_next).together (number_in nodes j) (number_in nodes k) r in
+      let t = (level_coarse s next (suc l.level) shape l.is_next).together (number_in nodes j) (number_in nodes k) r in
       w.each j t.0 hj t.1 ∙ sym (w.each k t.0 hk t.2);
 }
 

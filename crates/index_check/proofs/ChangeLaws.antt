@@ -94,11 +94,10 @@ pub near_more : (neighbour_of : ℕ → ℕ → Bool) (moved : List ℕ) (i d : 
 near_more neighbour_of moved i d mid new within w l = record {
   each = λ n p on. elim (l.only n p on) [
     | inl before ↦ (let r = w.each n p before in (has_more moved i d p within ∙ or_left (has (take i moved) p) (nat_eq p (get_or moved i d)) r.0, r.1))
-    | inr (h, e) ↦
-        (
-          has_more moved i d p within ∙ or_right (has (take i moved) p) (nat_eq p (get_or moved i d)) ((Decides-eqb p (get_or moved i d)).1 e),
-          subst (λ k. IsTrue (neighbour_of k n)) (sym e) h,
-        )
+    | inr (h, e) ↦ (
+      has_more moved i d p within ∙ or_right (has (take i moved) p) (nat_eq p (get_or moved i d)) ((Decides-eqb p (get_or moved i d)).1 e),
+      subst (λ k. IsTrue (neighbour_of k n)) (sym e) h,
+    )
   ];
   every = λ n p h e. elim (or_cases (has (take i moved) p) (nat_eq p (get_or moved i d)) (sym (has_more moved i d p within) ∙ h)) [
     | inl before ↦ l.kept n p (w.every n p before e)

@@ -110,23 +110,11 @@ fn next_active<G: Digraph>(
     requires listed { IsListed parts.now.block.items books.old.lists }
     ensures rising { IfOk result (λ l. IsStrictlyIncreasing l.items) }
     ensures closed { IfOk result (λ l. IsClosed (digraph_shape G.Digraph g.now) l.items) }
-    ensures lists { books.new.lists ≡ books.old.lists }
+    ensures listed { OnOk result (IsListed parts.now.block.items books.new.lists) }
     ensures keys { books.new.keys ≡ books.old.keys }
 {
-    let near = around(
-        alloc,
-        g,
-        &parts.block,
-        &books.sizes.members,
-        &parts.moved,
-    )?;
-    let active = with_rest(
-        alloc,
-        &books.lists,
-        &parts.block,
-        &mut books.sizes,
-        &near,
-    )?;
+    let near = around(alloc, g, &parts.block, &books.sizes.members, &parts.moved)?;
+    let active = with_rest(alloc, &books.lists, &parts.block, &mut books.sizes, &near)?;
     Ok(active)
 }
 
@@ -221,11 +209,7 @@ fn all_nodes(alloc: Global, size: u32, block: &[Option<u32>]) -> Result<Vec<u32>
 }
 
 // The groups of the nodes in the first round: their blocks in the next level, which isn't needed any more.
-fn first_groups(
-    alloc: Global,
-    next: Vec<Option<u32>>,
-    nodes: &[u32],
-) -> Result<Vec<u32>, Memory>
+fn first_groups(alloc: Global, next: Vec<Option<u32>>, nodes: &[u32]) -> Result<Vec<u32>, Memory>
     ensures { IfOk result (λ l. AreBlocksOf next.items nodes.now l.items) }
 {
     let groups = blocks_of(alloc, &next, nodes)?;

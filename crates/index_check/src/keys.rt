@@ -59,7 +59,11 @@ pub(crate) fn write_images<F: Fn(u32) -> Option<u32>>(
 }
 
 /// The same with the blocks of a list.
-pub(crate) fn write_set(images: &mut Vec<u32>, nodes: &[u32], base: &[Option<u32>]) -> Result<(), Memory>
+pub(crate) fn write_set(
+    images: &mut Vec<u32>,
+    nodes: &[u32],
+    base: &[Option<u32>],
+) -> Result<(), Memory>
     ensures { OnOk result (AreImages (at base.now) nodes.now images.new.items) }
 {
     write_images(images, nodes, |n| block_of(base, n))?;

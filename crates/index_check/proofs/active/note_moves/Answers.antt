@@ -11,7 +11,7 @@ returns g c = λ old way listed watched.
     let now = c.args.parts.now.block.items in
     let moved = c.args.parts.now.moved.items in (
       listed_next s old before now c.deref.result.now moved c.deref-2.result.now c.args.books.now.lists c.list_moved.new.lists way listed c.deref.ensures.value c.deref-2.ensures.value
-      c.in_ok-list_moved.ensures,
+          c.in_ok-list_moved.ensures,
       subst (λ b. IsWatched (g.G.Digraph.edge c.args.g.now) b c.follow.new.self) c.deref-3.ensures.value
-      (c.in_ok-follow.ensures old watched (differs_next s old before now c.deref-3.result.now moved c.deref-4.result.now way c.deref-3.ensures.value c.deref-4.ensures.value)),
+          (c.in_ok-follow.ensures old watched (differs_next s old before now c.deref-3.result.now moved c.deref-4.result.now way c.deref-3.ensures.value c.deref-4.ensures.value)),
     )
