@@ -142,8 +142,8 @@ fn move_nodes(
 
 // Writes down which nodes went to other blocks.
 fn note_moves<G: Digraph>(g: &G, parts: &Parts, books: &mut Books) -> Result<(), Memory>
-    ensures { OnOk result ((old : List (Option ℕ)) → IsNextWay (digraph_shape G.Digraph g.now) old parts.now.before.items parts.now.block.items parts.now.moved.items
-        → IsListed old books.old.lists → IsWatched (G.edge g.now) old books.old.keys.watches
+    ensures { OnOk result ((old : List (Option ℕ)) → IsNextWay (digraph_shape G.Digraph g.now) old parts.now.before.items parts.now.block.items
+        parts.now.moved.items → IsListed old books.old.lists → IsWatched (G.edge g.now) old books.old.keys.watches
         → IsListed parts.now.block.items books.new.lists × IsWatched (G.edge g.now) parts.now.block.items books.new.keys.watches) }
 {
     list_moved(&mut books.lists, &parts.block, &parts.moved)?;
@@ -261,6 +261,15 @@ fn part_rounds<G: Digraph>(
     part_on(alloc, g, parts, sizes)
 }
 
+// The same list once more.
+fn copy(alloc: Global, block: &[Option<u32>]) -> Result<Vec<Option<u32>>, Memory>
+    ensures { IfOk result (λ l. l.items ≡ block.now) }
+{
+    let mut copy = Vec::with_capacity(alloc, block.len())?;
+    copy.extend_from_slice(block)?;
+    Ok(copy)
+}
+
 /// A partition that is no finer than full bisimilarity by parents and children. It is that, once a round moves no node.
 ///
 /// The first levels are made of all nodes, until one adds few blocks, and the first round parts all nodes by one level more. Later a round
@@ -277,7 +286,7 @@ pub(crate) fn part_active<G: Digraph>(alloc: Global, g: &G) -> Result<Vec<Option
     ensures { IfOk result (λ l. IsCoarse (digraph_shape G.Digraph g.now) l.items) }
 {
     let (block, next) = first_levels(alloc, g, FIRST)?;
-    let before = block.to_vec(alloc)?;
+    let before = copy(alloc, &block)?;
     let mut parts = Parts {
         block,
         before,

@@ -189,7 +189,8 @@ fn find_number<G: Digraph>(
     requires watched { IsWatched (G.edge g.now) parts.now.block.items keys.old.watches }
     ensures near { OnOk result (keys.new.near ≡ keys.old.near) }
     ensures watched { OnOk result (IsWatched (G.edge g.now) parts.now.block.items keys.new.watches) }
-    ensures number { IfOk result (λ k. TakesNumber (is_neighbour side (G.edge g.now)) parts.now.before.items parts.now.block.items keys.old.table keys.new.table n own k) }
+    ensures number { IfOk result (λ k. TakesNumber (is_neighbour side (G.edge g.now)) parts.now.before.items parts.now.block.items
+        keys.old.table keys.new.table n own k) }
     ensures distinct { IfOk result (λ k. AreDistinct keys.new.table) }
 {
     write_changes(keys, g, parts, side, n)?;
@@ -213,7 +214,8 @@ fn number_of<G: Digraph>(
     requires watched { IsWatched (G.edge g.now) parts.now.block.items keys.old.watches }
     ensures near { OnOk result (keys.new.near ≡ keys.old.near) }
     ensures watched { OnOk result (IsWatched (G.edge g.now) parts.now.block.items keys.new.watches) }
-    ensures number { IfOk result (λ k. TakesNumber (is_neighbour side (G.edge g.now)) parts.now.before.items parts.now.block.items keys.old.table keys.new.table n own k) }
+    ensures number { IfOk result (λ k. TakesNumber (is_neighbour side (G.edge g.now)) parts.now.before.items parts.now.block.items
+        keys.old.table keys.new.table n own k) }
     ensures distinct { IfOk result (λ k. AreDistinct keys.new.table) }
 {
     match block_of(&parts.block, n) {

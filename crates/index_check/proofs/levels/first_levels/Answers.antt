@@ -19,5 +19,5 @@ pub returns : goal.returns
 returns g c = record {
   level = c.loop-j.j;
   is_level = c.loop-j.invariant;
-  is_next = c.in_ok-next-2.ensures.agrees c.loop-j.j (agree_as _ _ _ _ c.deref-3.ensures.value c.loop-j.invariant);
+  is_next = c.in_ok-next-2.ensures.agrees c.loop-j.j (agree_as _ _ _ _ c.deref-2.ensures.value c.loop-j.invariant);
 }
