@@ -10,7 +10,6 @@ use Rattle.hash_index.specs.Items.{Items, no_items, with_item, hash_at, count_to
 use Rattle.key_table.specs.NumberedKeys.{AreDistinct, Interns}
 use Rattle.graph_spec.specs.Members.{at, has}
 use Rattle.graph_spec.proofs.MemberLaws.{has_push, has_more}
-use Rattle.bisim_spec.specs.Partitions.{Together}
 use Rattle.bisim_spec.specs.NodeKeys.{AreImages, IsSetOf}
 use Rattle.bisim_spec.proofs.RisingLists.{images_set, rising_unique}
 use Rattle.bisim_spec.specs.declared.sides.Side.TheVariants.{Parents, Children}

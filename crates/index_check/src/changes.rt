@@ -1,6 +1,5 @@
 // Active nodes, parted by what the last round changed about their neighbours.
-ghost use Rattle.std.specs.Prelude.{◌≡◌, ◌≢◌, ◌<◌, ◌↔◌, ℕ, Bool, List, Option, true, Some, IsSome, IsTrue, IfOk, OnOk, length};
-ghost use Rattle.std.specs.List.Sorted.{IsStrictlyIncreasing};
+ghost use Rattle.std.specs.Prelude.{◌≡◌, ℕ, Bool, List, Option, Some, IsSome, IfOk, OnOk, length};
 ghost use Rattle.graph_spec.specs.Members.{at, has};
 ghost use Rattle.key_table.specs.NumberedKeys.{AreDistinct};
 ghost use Rattle.index_check.specs.NeighbourSides.{is_neighbour};

@@ -5,21 +5,7 @@ ghost use Rattle.hash_index.specs.Items.{hash_at, no_items};
 ghost use Rattle.key_table.specs.NumberedKeys.{AreDistinct};
 ghost use Rattle.index_check.specs.Active.{mark_in};
 ghost use Rattle.index_check.specs.NeighbourSides.{is_neighbour};
-ghost use Rattle.index_check.specs.Watches.{
-  AreOrdered,
-  AreNeighbours,
-  DiffersOnlyAt,
-  IsAsked,
-  IsWatched,
-  PutsBeside,
-  PutsHead,
-  PutsMoved,
-  PutsNodes,
-  PutsOne,
-  SkipsTo,
-  place_key,
-  side_in_key,
-};
+ghost use Rattle.index_check.specs.Watches.{AreOrdered, DiffersOnlyAt, IsAsked, IsWatched, PutsBeside, PutsHead, PutsMoved, PutsNodes, PutsOne, SkipsTo, place_key, side_in_key};
 
 use crate::keys::block_of;
 use crate::neighbour_lists::neighbours;

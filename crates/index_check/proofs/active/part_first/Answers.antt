@@ -1,4 +1,4 @@
-use Rattle.std.proofs.Common.{◌∙◌, sym, subst, arith}
+use Rattle.std.proofs.Common.{sym, subst, arith}
 use Rattle.index_check.specs.NumberedShapes.{digraph_shape}
 use Rattle.index_check.specs.Changes.{AreBlocksOf}
 use Rattle.index_check.specs.Active.{AreAllNodes, AreGrouped}

@@ -1,6 +1,5 @@
-use Rattle.std.proofs.Common.{sym, subst, arith, IsSome}
+use Rattle.std.proofs.Common.{subst, arith, IsSome}
 use Rattle.graph_spec.specs.Members.{at}
-use Rattle.index_check.specs.Listing.{IsListed}
 use Rattle.index_check.proofs.LevelLaws.{node_of}
 use Rattle.index_check.proofs.active.part_on.Goals as goal
 

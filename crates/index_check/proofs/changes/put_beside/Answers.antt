@@ -1,4 +1,4 @@
-use Rattle.std.proofs.Common.{◌∙◌, sym}
+use Rattle.std.proofs.Common.{◌∙◌}
 use Rattle.index_check.specs.NeighbourSides.{is_neighbour}
 use Rattle.index_check.proofs.ChangeLaws.{puts_of}
 use Rattle.index_check.proofs.changes.put_beside.Goals as goal
