@@ -2,23 +2,22 @@
 use Rattle.std.proofs.Common.{◌≡◌, ◌≢◌, ℕ, zero, suc, ◌+◌, ◌<◌, ◌≤◌, ◌⊎◌, List, [], ◌∷◌, ◌++◌, length, Option, Some, None, IfSome, refl, sym, ◌∙◌, ap, subst, arith, inl, inr, true, false, true≢false, slice_get, get_or, take}
 use Rattle.std.specs.Prelude.{nat_eq}
 use Rattle.std.proofs.lemmas.Bool.{cases_lt, cases_Bool, or_cases, or_left, or_right}
-use Rattle.std.proofs.lemmas.Bool.Decides.{Decides-eqb, eqb_tells}
+use Rattle.std.proofs.lemmas.Bool.Decides.{Decides-eqb}
 use Rattle.std.proofs.lemmas.List.{get_or_push, get_or_append_left, length-append}
-use Rattle.std.specs.List.Sorted.{IsStrictlyIncreasing}
 use Rattle.hash_index.specs.Items.{Items, with_item, hash_at, count_to, IsNewest}
 use Rattle.graph_spec.specs.Members.{at, has}
 use Rattle.graph_spec.specs.Shapes.{Shape}
-use Rattle.graph_spec.proofs.MemberLaws.{has_at, has_push, has_more}
-use Rattle.index_check.specs.Active.{number_in, IsOnTheWay, AreMoved, AreRenamed, renamed_at}
+use Rattle.graph_spec.proofs.MemberLaws.{has_push, has_more}
+use Rattle.index_check.specs.Active.{IsClosed, IsCoarse, AreMoves}
 use Rattle.index_check.specs.Listing.{IsOn, IsListed, ListsNode, ListsMoved, AddsNode, IsWidened}
-use Rattle.index_check.proofs.NeighbourBlocks.{place_of}
+use Rattle.index_check.proofs.MoveLaws.{others_stay}
 
 item_append : (xs ys : List ℕ) (k x : ℕ) → slice_get xs k ≡ Some x → slice_get (xs ++ ys) k ≡ Some x
 item_append [] ys k x e = absurd (cc)
 item_append (z ∷ xs) ys zero x e = e
 item_append (z ∷ xs) ys (suc k) x e = item_append xs ys k x e
 
-item_last : (xs : List ℕ) (x : ℕ) → slice_get (xs ++ x ∷ []) (length xs) ≡ Some x
+pub item_last : (xs : List ℕ) (x : ℕ) → slice_get (xs ++ x ∷ []) (length xs) ≡ Some x
 item_last [] x = refl
 item_last (z ∷ xs) x = item_last xs x
 
@@ -84,37 +83,13 @@ moved_one block moved i d old mid new within w l = record {
   ];
 }
 
-same_or_not : (x y : Option ℕ) → (x ≡ y) ⊎ (x ≢ y)
-same_or_not None None = inl refl
-same_or_not None (Some b) = inr (λ e. absurd (cc))
-same_or_not (Some a) None = inr (λ e. absurd (cc))
-same_or_not (Some a) (Some b) = elim (eqb_tells a b) [
-  | inl t ↦ inl (ap Some t.1)
-  | inr d ↦ inr (λ e. d.1 (let same : a ≡ b = cc in same))
-]
-
 -- once those that went to another block are listed, each node is
-pub listed_still : (old new : List (Option ℕ)) (active groups names moved : List ℕ) (lists lists2 : Items ℕ) → IsListed old lists → AreMoved old active groups names (length active) moved
-    → AreRenamed old new active groups names (length active) → ListsMoved new moved lists lists2 → IsListed new lists2
-listed_still old new active groups names moved lists lists2 w m c l = λ n b e. elim (cases_Bool (has moved n)) [
+pub listed_still : (old new : List (Option ℕ)) (moved : List ℕ) (lists lists2 : Items ℕ) → IsListed old lists → AreMoves old new moved → ListsMoved new moved lists lists2
+    → IsListed new lists2
+listed_still old new moved lists lists2 w m l = λ n b e. elim (cases_Bool (has moved n)) [
   | inl on ↦ l.put n b on e
-  | inr off ↦ l.kept b n (w n b (sym (stays n off) ∙ e))
+  | inr off ↦ l.kept b n (w n b (sym (others_stay old new moved m n off) ∙ e))
 ]
-  where
-    stays_at : (n i : ℕ) → i < length active → number_in active i ≡ n → has moved n ≡ false → at new n ≡ at old n
-    stays_at n i h here off = elim (same_or_not (renamed_at old active groups names i) (at old (number_in active i))) [
-      | inl same ↦ ap (at new) (sym here) ∙ c.applied i h ∙ same ∙ ap (at old) here
-      | inr apart ↦ absurd (true≢false (sym (ap (has moved) (sym here) ∙ m.every i h apart) ∙ off))
-    ]
-
-    stays : (n : ℕ) → has moved n ≡ false → at new n ≡ at old n
-    stays n off = elim (cases_Bool (has active n)) [
-      | inl here ↦ (let i = place_of active n here in stays_at n i.0 i.1 i.2 off)
-      | inr none ↦ c.others n (λ i h e. true≢false (sym (ap (has active) (sym e) ∙ stands i h) ∙ none))
-    ]
-      where
-        stands : (i : ℕ) → i < length active → has active (number_in active i) ≡ true
-        stands i h = has_at active i 0 h
 
 -- a node behind the others
 pub adds_node : (block : List (Option ℕ)) (b n : ℕ) (old : List ℕ) → at block n ≡ Some b → AddsNode block b n old (old ++ n ∷ [])
@@ -207,13 +182,8 @@ widened_same block old mid new w same = record {
 }
 
 -- with nodes their whole blocks are active, so what is bisimilar to one is
-pub widened_way : (s : Shape) (block : List (Option ℕ)) (active wider : List ℕ) → IsOnTheWay s block active → IsWidened block active wider → IsStrictlyIncreasing wider
-    → IsOnTheWay s block wider
-widened_way s block active wider w v rising = record {
-  coarse = w.coarse;
-  closed = λ m n r h. elim (v.only m h) [
-    | inl before ↦ v.kept n (w.closed m n r before)
-    | inr (b, e, whole) ↦ (let t = w.coarse.together m n r in whole n (let x = t.1 in let y = t.2 in cc))
-  ];
-  rising = rising;
-}
+pub widened_closed : (s : Shape) (block : List (Option ℕ)) (active wider : List ℕ) → IsCoarse s block → IsClosed s active → IsWidened block active wider → IsClosed s wider
+widened_closed s block active wider w closed v = λ m n r h. elim (v.only m h) [
+  | inl before ↦ v.kept n (closed m n r before)
+  | inr (b, e, whole) ↦ (let t = w.together m n r in whole n (let x = t.1 in let y = t.2 in cc))
+]

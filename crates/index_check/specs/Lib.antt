@@ -6,3 +6,5 @@ pub mod OuterParents
 pub mod ClosedParents
 pub mod Active
 pub mod Listing
+pub mod Changes
+pub mod Watches

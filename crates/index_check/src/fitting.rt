@@ -67,8 +67,7 @@ fn block_list(alloc: Global, saved: &Saved, j: u32) -> Result<Vec<Option<u32>>, 
 /// bisimilar to level i, for the 1-index one that is stable and in which no two blocks can be merged, for the forward and backward
 /// index the classes of full bisimilarity by parents and children, and for a bounded one those to its level. It takes 8 bytes a
 /// number, and costs what `fits_level`, `is_stable` and `is_minimal`, `fits_both` or `fits_level_both` cost. Keys are found by hashes that
-/// have no secret, so a file that is crafted to have many keys of one hash can make it quadratic. `fits_both` takes more than O(n + m log m)
-/// where many hubs with many neighbours part one by one: O(m^1.5).
+/// have no secret, so a file that is crafted to have many keys of one hash can make it quadratic.
 pub fn fits(alloc: Global, saved: &Saved, j: u32) -> Result<bool, Memory>
     requires { j < length saved.now.views }
     ensures { IfOk result (λ yes. IsTrue yes ↔ FitsView saved.now j) }

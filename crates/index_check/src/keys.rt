@@ -2,7 +2,7 @@
 ghost use Rattle.std.specs.Prelude.{◌≡◌, ◌++◌, ◌∷◌, [], ℕ, List, Option, filter_map, option_to_list, OnOk, IfOk};
 ghost use Rattle.graph_spec.specs.Members.{at};
 ghost use Rattle.key_table.specs.NumberedKeys.{AreDistinct, Interns};
-ghost use Rattle.bisim_spec.specs.NodeKeys.{Gives, IsWritten};
+ghost use Rattle.bisim_spec.specs.NodeKeys.{AreImages, Gives, IsWritten};
 
 use key_table::{KeyTable, sort_dedup};
 use px_base::Memory;
@@ -40,6 +40,33 @@ fn push_blocks<F: Fn(u32) -> Option<u32>>(
     for n in nodes {
         push_block(numbers, block_of(*n))?;
     }
+    Ok(())
+}
+
+/// Writes the numbers that the function gives of the nodes, rising, each once.
+pub(crate) fn write_images<F: Fn(u32) -> Option<u32>>(
+    images: &mut Vec<u32>,
+    nodes: &[u32],
+    block_of: F,
+) -> Result<(), Memory>
+    requires { F.IsAlwaysCallable block_of }
+    ensures { OnOk result ((f : ℕ → Option ℕ) → Gives (F.post block_of) f → AreImages f nodes.now images.new.items) }
+{
+    images.clear();
+    push_blocks(images, nodes, block_of)?;
+    sort_dedup(images);
+    Ok(())
+}
+
+/// The same with the blocks of a list.
+pub(crate) fn write_set(
+    images: &mut Vec<u32>,
+    nodes: &[u32],
+    base: &[Option<u32>],
+) -> Result<(), Memory>
+    ensures { OnOk result (AreImages (at base.now) nodes.now images.new.items) }
+{
+    write_images(images, nodes, |n| block_of(base, n))?;
     Ok(())
 }
 

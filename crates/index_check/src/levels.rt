@@ -6,6 +6,7 @@ ghost use Rattle.bisim_spec.specs.Bisimilarity.{Bis, Both};
 ghost use Rattle.bisim_spec.specs.Partitions.{IsPartition, Agrees};
 ghost use Rattle.index_check.specs.NeighbourSides.{is_neighbour};
 ghost use Rattle.bisim_spec.specs.Refinement.{IsNextLevel, Refines};
+ghost use Rattle.index_check.specs.Active.{AreLevels};
 ghost use Rattle.index_check.specs.NumberedShapes.{digraph_shape};
 
 use crate::comparing::{are_same, span_of};
@@ -123,25 +124,26 @@ fn adds_few(size: u32, before: usize, after: usize) -> bool {
     after.saturating_sub(before) <= (size / FEW) as usize
 }
 
-/// One of the first levels by parents and children: the first one that adds few blocks to those of the level below, but at most this one.
-pub(crate) fn first_level<G: Digraph>(
+/// One of the first levels by parents and children, and the one above it. It is the first one to which that adds few blocks, but at most this
+/// one.
+pub(crate) fn first_levels<G: Digraph>(
     alloc: Global,
     g: &G,
     most: u32,
-) -> Result<Vec<Option<u32>>, Memory>
-    ensures { IfOk result (λ l. (i : ℕ) × Agrees (digraph_shape G.Digraph g.now) l.items (Both (digraph_shape G.Digraph g.now) i)) }
+) -> Result<(Vec<Option<u32>>, Vec<Option<u32>>), Memory>
+    ensures { IfOk result (λ l. AreLevels (digraph_shape G.Digraph g.now) l.0.items l.1.items) }
 {
     let mut block = label_list(alloc, g)?;
     let mut blocks = 0;
     for j in 0..most {
         let next = next_both(alloc, g, &block)?;
         let more = span_of(&next);
-        let few = adds_few(g.size(), blocks, more);
+        if adds_few(g.size(), blocks, more) {
+            return Ok((block, next));
+        }
         block = next;
         blocks = more;
-        if few {
-            return Ok(block);
-        }
     }
-    Ok(block)
+    let next = next_both(alloc, g, &block)?;
+    Ok((block, next))
 }

@@ -4,19 +4,20 @@
 
 mod active;
 mod both;
+mod changes;
 mod closed;
 mod comparing;
-mod counts;
 mod fitting;
-mod hubs;
 mod keys;
 mod levels;
 mod listing;
 mod minimal;
+mod moves;
 mod neighbour_lists;
 mod outer;
 mod part_sizes;
 mod refining;
 mod stability;
+mod watches;
 
 pub use fitting::fits;

@@ -1,9 +1,8 @@
 // The numbers of blocks that are parted. What a part is called decides how much work is left, and never what is found: so nothing is
 // promised here.
 ghost use Rattle.std.specs.Prelude.{◌≡◌};
-ghost use Rattle.index_check.specs.Active.{is_marked, is_shared, mark_in, number_in};
+ghost use Rattle.index_check.specs.Active.{is_shared, number_in};
 
-use crate::counts::Counts;
 use crate::keys::block_of;
 use px_base::Memory;
 use std::alloc::Global;
@@ -26,27 +25,14 @@ pub(crate) fn put_at(numbers: &mut [u32], i: u32, number: u32) {
     }
 }
 
-/// What is known of each block, by its number: how many members it has, how many nodes are on its list, and whether it is marked. `work` is 0
-/// for each block between calls, and `prints` is `None`. Numbers from `free` on are no blocks.
+/// What is known of each block, by its number: how many members it has, and how many nodes are on its list. `work` is 0 for each block
+/// between calls. Numbers from `free` on are no blocks.
 #[derive(Drop)]
 pub(crate) struct Sizes {
     pub(crate) members: Vec<u32>,
-    pub(crate) marks: Vec<bool>,
-    /// In which blocks nodes of blocks with hubs have neighbours.
-    pub(crate) counts: Counts,
-    /// The nodes that went to another block in the last round.
-    pub(crate) changes: Vec<Change>,
     listed: Vec<u32>,
     work: Vec<u32>,
-    prints: Vec<Option<u64>>,
     free: u32,
-}
-
-/// A node that went to another block, and its block before.
-#[derive(Copy, Clone)]
-pub(crate) struct Change {
-    pub(crate) node: u32,
-    pub(crate) from: Option<u32>,
 }
 
 // Active nodes of one block that stay together: the number of their block, and how many there are.
@@ -83,71 +69,10 @@ impl Sizes {
         let listed = members.to_vec(alloc)?;
         Ok(Sizes {
             members,
-            marks: vec![in alloc; false; free as usize]?,
-            counts: Counts::new(alloc)?,
-            changes: Vec::new(alloc),
             listed,
             work: vec![in alloc; 0; free as usize]?,
-            prints: vec![in alloc; None; free as usize]?,
             free,
         })
-    }
-
-    /// Marks a block, or takes its mark off.
-    pub(crate) fn mark(&mut self, block: Option<u32>, on: bool) {
-        if let Some(b) = block {
-            if (b as usize) < self.marks.len() {
-                self.marks[b as usize] = on;
-            }
-        }
-    }
-
-    /// Whether all members of a block are counted as active.
-    pub(crate) fn is_active(&self, block: Option<u32>) -> bool {
-        match block {
-            Some(b) => number_at(&self.work, b) == number_at(&self.members, b),
-            None => false,
-        }
-    }
-
-    /// Compares the print of one more active node of a block with that of the first one. Once two differ, no members count as active.
-    pub(crate) fn compare_print(&mut self, block: Option<u32>, print: u64) {
-        if let Some(b) = block {
-            if (b as usize) < self.prints.len() {
-                match self.prints[b as usize] {
-                    Some(first) if first == print => {}
-                    Some(_) => put_at(&mut self.work, b, 0),
-                    None => self.prints[b as usize] = Some(print),
-                }
-            }
-        }
-    }
-
-    /// Takes the mark off a block, and counts none of its members as active.
-    pub(crate) fn clear(&mut self, block: Option<u32>) {
-        self.mark(block, false);
-        if let Some(b) = block {
-            put_at(&mut self.work, b, 0);
-            if (b as usize) < self.prints.len() {
-                self.prints[b as usize] = None;
-            }
-        }
-    }
-
-    /// Notes the blocks of nodes that go to other ones.
-    pub(crate) fn note_changes(
-        &mut self,
-        block: &[Option<u32>],
-        moved: &[u32],
-    ) -> Result<(), Memory> {
-        self.changes.clear();
-        for n in moved {
-            self.changes.push(Change {
-                node: *n,
-                from: block_of(block, *n),
-            })?;
-        }
-        Ok(())
     }
 
     /// Counts the active nodes of each block.
@@ -231,10 +156,8 @@ fn name_part(sizes: &mut Sizes, part: Part, k: u32) -> Result<u32, Memory> {
     let name = sizes.free;
     sizes.free = name.wrapping_add(1);
     sizes.members.push(part.size)?;
-    sizes.marks.push(false)?;
     sizes.listed.push(part.size)?;
     sizes.work.push(0)?;
-    sizes.prints.push(None)?;
     Ok(name)
 }
 
@@ -272,27 +195,6 @@ pub(crate) fn is_shared(members: &[u32], block: Option<u32>) -> bool
 {
     match block {
         Some(b) => number_at(members, b) > 1,
-        None => false,
-    }
-}
-
-// The mark at a place, and none past the end.
-fn mark_at(marks: &[bool], i: u32) -> bool
-    ensures { result ≡ mark_in marks.now i }
-{
-    if (i as usize) < marks.len() {
-        marks[i as usize]
-    } else {
-        false
-    }
-}
-
-/// Whether the node has a block with this mark.
-pub(crate) fn is_marked(marks: &[bool], on: bool, block: Option<u32>) -> bool
-    ensures { result ≡ is_marked marks.now on block }
-{
-    match block {
-        Some(b) => mark_at(marks, b) == on,
         None => false,
     }
 }

@@ -1,11 +1,12 @@
 use Rattle.index_check.specs.NumberedShapes.{digraph_shape}
 use Rattle.index_check.specs.Listing.{IsListed}
-use Rattle.index_check.specs.Active.{IsClosed, IsOnTheWay}
+use Rattle.index_check.specs.Watches.{IsWatched}
+use Rattle.index_check.specs.Active.{IsOnTheWay}
 use Rattle.index_check.proofs.active.part_all.Given as goal
 
 abbrev pub invariant-loop-round : goal.invariant-loop-round
 invariant-loop-round g l = record {
-  way : IsOnTheWay (digraph_shape g.G.Digraph l.g) l.block l.active.items;
-  listed : IsListed l.block l.lists;
-  later : IsClosed (digraph_shape g.G.Digraph l.g) l.later.items;
+  way : IsOnTheWay (digraph_shape g.G.Digraph l.g) l.parts.before.items l.parts.block.items l.parts.moved.items;
+  listed : IsListed l.parts.block.items l.books.lists;
+  watched : IsWatched (g.G.Digraph.edge l.g) l.parts.block.items l.books.keys.watches;
 }
