@@ -33,8 +33,9 @@ use label_graph::Digraph;
 use px_base::Memory;
 use std::alloc::Global;
 
-// How many levels are made of all nodes at first, at most. In most graphs few nodes part later, so that the lists of blocks stay short.
-const FIRST: u32 = 4;
+// How many levels are made of all nodes at first, at most, and then the one above them. In most graphs few nodes part later, so that the lists
+// of blocks stay short.
+const FIRST: u32 = 3;
 
 // What is known beside a partition: the sizes of its blocks, lists of their nodes, and what keys are found by.
 #[derive(Drop)]
