@@ -1,5 +1,5 @@
 // Whether a node with many neighbours has one in a block, without a read of all of them.
-ghost use Rattle.std.specs.Prelude.{◌≡◌, ◌≢◌, ◌<◌, ◌↔◌, [], ◌∷◌, ℕ, Bool, List, Option, Some, IsSome, IsTrue, IfOk, OnOk, true, length, slice_get};
+ghost use Rattle.std.specs.Prelude.{◌≡◌, ◌≢◌, ◌<◌, ◌≤◌, ◌↔◌, [], ◌∷◌, ℕ, Bool, List, Option, Some, IsSome, IsTrue, IfOk, IfSome, IfNone, OnOk, true, length, slice_get};
 ghost use Rattle.graph_spec.specs.Members.{at, has};
 ghost use Rattle.hash_index.specs.Items.{hash_at, no_items};
 ghost use Rattle.key_table.specs.NumberedKeys.{AreDistinct};
@@ -9,6 +9,7 @@ ghost use Rattle.index_check.specs.Watches.{AreOrdered, DiffersOnlyAt, IsAsked, 
 
 use crate::keys::block_of;
 use crate::neighbour_lists::neighbours;
+use crate::part_sizes::{number_at, put_at};
 use bisim_spec::Side;
 use hash_index::HashIndex;
 use key_table::KeyTable;
@@ -16,8 +17,11 @@ use label_graph::Digraph;
 use px_base::Memory;
 use std::alloc::Global;
 
-// A node with more neighbours than this on a side is watched once it is asked for that side.
+// A node with more neighbours than this on a side is watched once they were looked through often.
 const MANY: usize = 16;
+
+// How often that is.
+const OFTEN: usize = 16;
 
 // Lists of neighbours, each of a place: a node, a side of it, and a block. A neighbour that goes to another block stays where it was, until a
 // question comes upon it.
@@ -33,8 +37,8 @@ struct Places {
 /// For nodes with many neighbours: lists of these by their blocks.
 ///
 /// A neighbour on a list takes up to 64 bytes: 16 to 20 for the item, and 40 to 44 for its place, if that is new. On lists are at most three
-/// times as many as watched nodes have neighbours and there are node numbers, and those that came in one call of `follow`. A mark takes a byte
-/// for each node number.
+/// times as many as watched nodes have neighbours and there are node numbers, and those that came in one call of `follow`. A mark takes a byte,
+/// and a count of nodes passed by 4, for each node number.
 #[derive(Drop)]
 pub(crate) struct Watches {
     places: Places,
@@ -42,6 +46,8 @@ pub(crate) struct Watches {
     watched: Vec<bool>,
     // how many neighbours the watched nodes have
     neighbours: usize,
+    // by node: how many neighbours were passed by in looks at those that aren't watched
+    passed: Vec<u32>,
 }
 
 // How a side stands in the key of a place.
@@ -109,16 +115,40 @@ fn skip(
     None
 }
 
-// Whether one of the nodes is in the block.
-fn any_in(nodes: &[u32], block: &[Option<u32>], b: u32) -> bool
-    ensures { IsTrue result ↔ ((p : ℕ) × IsTrue (has nodes.now p) × (at block.now p ≡ Some b)) }
+// How many of the nodes stand before the first that is in the block.
+fn find_in(nodes: &[u32], block: &[Option<u32>], b: u32) -> Option<usize>
+    ensures some { IfSome result (λ i. (p : ℕ) × IsTrue (has nodes.now p) × (at block.now p ≡ Some b)) }
+    ensures none { IfNone result ((p : ℕ) → IsTrue (has nodes.now p) → at block.now p ≢ Some b) }
 {
-    for p in nodes {
-        if block_of(block, *p) == Some(b) {
-            return true;
+    for i in 0..nodes.len() {
+        if block_of(block, nodes[i]) == Some(b) {
+            return Some(i);
         }
     }
-    false
+    None
+}
+
+// The same from an index on, and past the end from the first on.
+fn find_from(nodes: &[u32], block: &[Option<u32>], b: u32, from: usize) -> Option<usize>
+    requires { from ≤ length nodes.now }
+    ensures some { IfSome result (λ i. (p : ℕ) × IsTrue (has nodes.now p) × (at block.now p ≡ Some b)) }
+    ensures none { IfNone result ((p : ℕ) → IsTrue (has nodes.now p) → at block.now p ≢ Some b) }
+{
+    let (before, behind) = nodes.split_at(from);
+    match find_in(behind, block, b) {
+        Some(i) => Some(i),
+        None => match find_in(before, block, b) {
+            Some(i) => Some(behind.len().saturating_add(i)),
+            None => None,
+        },
+    }
+}
+
+// The index at which a look begins, once so many nodes were passed by.
+fn turn(passed: u32, len: usize) -> usize
+    ensures { result ≤ len }
+{
+    if len == 0 { 0 } else { passed as usize % len }
 }
 
 impl Places {
@@ -301,6 +331,7 @@ impl Watches {
             },
             watched: Vec::new(alloc),
             neighbours: 0,
+            passed: Vec::new(alloc),
         })
     }
 
@@ -323,6 +354,54 @@ impl Watches {
         Ok(())
     }
 
+    // Whether one of the nodes, which are neighbours of n, is in the block. It begins where the last look ended.
+    fn look(&mut self, nodes: &[u32], block: &[Option<u32>], n: u32, b: u32) -> bool
+        ensures places { self.new.places ≡ self.old.places }
+        ensures watched { self.new.watched ≡ self.old.watched }
+        ensures found { IsTrue result ↔ ((p : ℕ) × IsTrue (has nodes.now p) × (at block.now p ≡ Some b)) }
+    {
+        let passed = number_at(&self.passed, n);
+        let found = find_from(nodes, block, b, turn(passed, nodes.len()));
+        let more = u32::try_from(found.unwrap_or(nodes.len())).unwrap_or(u32::MAX);
+        put_at(&mut self.passed, n, passed.saturating_add(more));
+        found.is_some()
+    }
+
+    // Makes the numbers of nodes passed by, if there are none.
+    fn make_passed(&mut self, size: u32) -> Result<(), Memory>
+        ensures places { OnOk result (self.new.places ≡ self.old.places) }
+        ensures watched { OnOk result (self.new.watched ≡ self.old.watched) }
+    {
+        if self.passed.is_empty() {
+            self.passed.resize(size as usize, 0)?;
+        }
+        Ok(())
+    }
+
+    // Whether the neighbours of a node were looked through often.
+    fn is_due(&self, n: u32, count: usize) -> bool {
+        number_at(&self.passed, n) as usize / OFTEN >= count
+    }
+
+    // Watches a node with many neighbours once they were looked through often.
+    fn watch_if_due<G: Digraph>(
+        &mut self,
+        g: &G,
+        block: &[Option<u32>],
+        n: u32,
+        count: usize,
+    ) -> Result<(), Memory>
+        requires node { IsSome (G.label_at g.now n) }
+        requires watched { IsWatched (G.edge g.now) block.now self.old }
+        ensures { OnOk result (IsWatched (G.edge g.now) block.now self.new) }
+    {
+        self.make_passed(g.size())?;
+        if self.is_due(n, count) && !is_on(&self.watched, n) {
+            self.watch(g, block, n)?;
+        }
+        Ok(())
+    }
+
     // The answer by the lists, if the node is watched, and else by its neighbours.
     fn answer<G: Digraph>(
         &mut self,
@@ -341,11 +420,11 @@ impl Watches {
             let found = self.places.ask(block, n, side, b)?;
             Ok(found)
         } else {
-            Ok(any_in(neighbours(g, side, n), block, b))
+            Ok(self.look(neighbours(g, side, n), block, n, b))
         }
     }
 
-    /// Whether the node has a neighbour on that side in the block. A node with many neighbours there is watched from then on. Expected O(1),
+    /// Whether the node has a neighbour on that side in the block. A node with many is watched once they were looked through often. Expected O(1),
     /// amortized over the neighbours of watched nodes, and over those of the nodes that `follow` takes.
     pub(crate) fn has_neighbour<G: Digraph>(
         &mut self,
@@ -360,8 +439,9 @@ impl Watches {
         ensures watched { OnOk result (IsWatched (G.edge g.now) block.now self.new) }
         ensures found { IfOk result (λ yes. IsTrue yes ↔ ((p : ℕ) × IsTrue (is_neighbour side (G.edge g.now) p n) × (at block.now p ≡ Some b))) }
     {
-        if neighbours(g, side, n).len() > MANY && !is_on(&self.watched, n) {
-            self.watch(g, block, n)?;
+        let count = neighbours(g, side, n).len();
+        if count > MANY {
+            self.watch_if_due(g, block, n, count)?;
         }
         let found = self.answer(g, block, side, n, b)?;
         Ok(found)

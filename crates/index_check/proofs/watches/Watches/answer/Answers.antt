@@ -5,7 +5,7 @@ use Rattle.index_check.proofs.watches.Watches.answer.Goals as goal
 
 pub returns-in_ok-found-clause-watched : goal.returns-in_ok-found-clause-watched
 returns-in_ok-found-clause-watched g c =
-    asked_watched (g.G.Digraph.edge c.args.g.now) c.args.block.now c.args.self.now (record { places = c.ask.new.self; watched = c.args.self.now.watched; neighbours = c.args.self.now.neighbours })
+    asked_watched (g.G.Digraph.edge c.args.g.now) c.args.block.now c.args.self.now (record { places = c.ask.new.self; watched = c.args.self.now.watched; neighbours = c.args.self.now.neighbours; passed = c.args.self.now.passed })
     c.args.n c.args.side c.args.b c.in_ok-found.found c.requires.watched c.in_ok-found.ensures.asked c.in_ok-found.ensures.ordered refl
 
 pub returns-in_ok-found-clause-found : goal.returns-in_ok-found-clause-found
