@@ -10,8 +10,8 @@ views.
 
 Then it has files checked that are made to be slow: at twice the size a check should take twice as long. In `hub` each node of a chain of one
 label leads to one more node. In `ring` each round of refinement parts two nodes from thousands, and in `hubs` each has two more nodes to
-look at that have thousands of children. In `twins` there are no others to look at: each node of the chain has 65 more parents, and is put off
-as they are.
+look at that have thousands of children. In `twins` each node of the chain has 65 more parents, and these have as many children as the chain
+has nodes. In `parting` there are as many hubs as other nodes, and a round parts one of each: here twice the edges are twice the size.
 """
 import os
 import pathlib
@@ -26,6 +26,7 @@ CASES = [("dag", 200_000, 5), ("cyclic", 200_000, 5), ("deep", 200_000, 5), ("da
 # nodes of the files that are made to be slow
 SLOW = [50_000, 100_000]
 TWINS = [8_000, 16_000]
+PARTING = [700, 990]
 
 
 def run(command, output=subprocess.DEVNULL):
@@ -121,10 +122,16 @@ def write_twins(file, count):
     write_file(file, ["a"] * count + ["h", "h", *(f"t{n}" for n in tells)], edges, "fb", {count + 1: count})
 
 
+def write_parting(file, count):
+    """Nodes of one label but the first, and as many hubs, of which the one with the number i leads to each of them but those numbered i and i + 1."""
+    edges = [(count + hub, n) for hub in range(count) for n in range(count) if n not in (hub, hub + 1)]
+    write_file(file, ["m"] + ["a"] * (count - 1) + ["h"] * count, edges, "fb")
+
+
 def measure_slow(program, folder):
     file = os.path.join(folder, "slow")
-    for kind, write in (("hub", write_hub), ("ring", write_ring), ("hubs", write_hubs), ("twins", write_twins)):
-        for count in TWINS if kind == "twins" else SLOW:
+    for kind, write in (("hub", write_hub), ("ring", write_ring), ("hubs", write_hubs), ("twins", write_twins), ("parting", write_parting)):
+        for count in {"twins": TWINS, "parting": PARTING}.get(kind, SLOW):
             write(file, count)
             taken = best_of({"check": [program, "--check", file]}, 2)["check"]
             print(f"{kind}, {count:,} nodes: --check  {taken[0]:>8.2f} s, {taken[1]:.0f} MB", flush=True)
