@@ -12,14 +12,20 @@ Share own u v = (b : ℕ) × (own u ≡ Some b) × (own v ≡ Some b)
 
 -- the two have the same number, and their neighbours are in the same blocks of base
 pub record StayTogether (own : ℕ → Option ℕ) (base : List (Option ℕ)) (neighbour_of : ℕ → ℕ → Bool) (u v : ℕ) : Type 0 where
+  -- both have a number, and the same
   pub one_number : Share own u v
+  -- each neighbour of the one has one of the other in its block
   pub neighbours : Matched (λ p n. IsTrue (neighbour_of p n)) (Together base) u v
 
 -- exactly those that have a number have a block, and two are together exactly where they stay together
 pub record Refines (own : ℕ → Option ℕ) (base : List (Option ℕ)) (neighbour_of : ℕ → ℕ → Bool) (next : List (Option ℕ)) : Type 0 where
+  -- who has a number has a block
   pub kept : (n : ℕ) → IsSome (own n) → IsSome (at next n)
+  -- who has a block has a number
   pub only : (n : ℕ) → IsSome (at next n) → IsSome (own n)
+  -- two in one block stay together
   pub parted : (u v : ℕ) → Together next u v → StayTogether own base neighbour_of u v
+  -- two that stay together are in one block
   pub grouped : (u v : ℕ) → StayTogether own base neighbour_of u v → Together next u v
 
 -- Whatever the level: where the one partition is into the classes of a relation at that level, the other is into those

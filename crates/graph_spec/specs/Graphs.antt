@@ -17,6 +17,7 @@ Edges = set.FinSet edge_cmp
 pub record Graph : Type 0 where
   -- for each number ever allocated, the label of its node, or none where the node is gone
   pub allocated : List (Option (List ℕ))
+  -- each pair of nodes with an edge from the first to the second, once
   pub edges : Edges
   -- each label that was ever seen, once, in the order in which they came
   pub seen : List (List ℕ)

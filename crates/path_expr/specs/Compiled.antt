@@ -12,7 +12,9 @@ use Rattle.path_expr.specs.ExprTrees.{item_of, seq_of, seq_from}
 
 -- the states that were there are there still
 pub record Grows (old new : List State) : Type 0 where
+  -- there are no fewer states
   pub longer : length old ≤ length new
+  -- each has the place that it had
   pub kept : (k : ℕ) (s : State) → slice_get old k ≡ Some s → slice_get new k ≡ Some s
 
 -- from the result both states are entered, where there is a second one

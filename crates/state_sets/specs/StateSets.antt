@@ -14,7 +14,9 @@ pub record AreStates (size : ℕ) (members list : List ℕ) : Type 0 where
 
 -- further states of the kind are listed behind those that were
 pub record Enlarges (P : ℕ → Type 0) (before after : List ℕ) : Type 0 where
+  -- the list begins as before
   pub front : (more : List ℕ) × (after ≡ before ++ more)
+  -- each listed state was listed before, or is of the kind
   pub fresh : (s : ℕ) → IsTrue (has after s) → IsTrue (has before s) ⊎ P s
 
 -- the second state is entered from the first, by any number of forks
@@ -24,8 +26,11 @@ pub data ForkedTo (at : ℕ → Option State) (s : ℕ) : ℕ → Type 0 where
 
 -- the states are those of a kind, and all that are entered from these
 pub record AreClosed (at : ℕ → Option State) (P : ℕ → Type 0) (states : List ℕ) : Type 0 where
+  -- each state of the kind is listed
   pub first : (s : ℕ) → P s → IsTrue (has states s)
+  -- what is entered from a listed state is listed
   pub closed : (s k : ℕ) → IsTrue (has states s) → Enters (at s) k → IsTrue (has states k)
+  -- each listed state is entered from one of the kind, by any number of forks
   pub source : (k : ℕ) → IsTrue (has states k) → (s : ℕ) × P s × ForkedTo at s k
 
 -- behind the label of the node, from one of these states
