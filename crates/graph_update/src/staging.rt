@@ -76,12 +76,12 @@ pub fn stage(alloc: Global, graph: &mut Graph, change: &Change) -> Result<Staged
     ensures staged { IfOk result (λ staged. IsStaged change.now graph.new staged) }
     ensures err { OnErr result (graph.new ≡ record { graph = graph.old.graph; reserved = none_reserved }) }
 {
-    graph.clear_room();
+    graph.clear_reserved();
     let mut plans = SmallVec::new(alloc);
     match stage_steps(alloc, graph, change, change.steps(), &mut plans) {
         Ok(()) => Ok(Staged { plans }),
         Err(error) => {
-            graph.clear_room();
+            graph.clear_reserved();
             Err(error)
         }
     }

@@ -367,7 +367,7 @@ impl Graph {
 
     /// Leaves nothing reserved. The memory stays with the graph, for later additions. O(r) where r nodes, edges and labels
     /// are reserved, no memory.
-    pub fn clear_room(&mut self)
+    pub fn clear_reserved(&mut self)
         ensures { self.new ≡ record { graph = self.old.graph; reserved = none_reserved } }
     {
         self.labels.clear();

@@ -13,7 +13,7 @@ use Rattle.bisim_spec.proofs.Affected.{unaffected_lower, no_end, unaffected_besi
 use Rattle.bisim_levels.specs.SidedKeys.{IsAround, IsSidedKey, RefinesBy}
 use Rattle.bisim_levels.proofs.KeyLaws.{stay_from_key, key_from_stay}
 use Rattle.bisim_levels.proofs.SidedRefinement.{refined_level}
-use Rattle.level_spec.specs.Keyed.{IsKeyed, AreApart, KeysStay, SameFar}
+use Rattle.level_spec.specs.Keyed.{IsKeyed, AreDistinctKeys, KeysStay, SameFar}
 
 -- a block has one key
 pub one_key : (key : ℕ → Option (List ℕ)) (b : ℕ) (xs ys : List ℕ) → key b ≡ Some xs → key b ≡ Some ys → xs ≡ ys
@@ -21,7 +21,7 @@ one_key key b xs ys e f = cc
 
 module _ (which : Sides) where
   -- where each node's block has the node's key, and no two blocks have one key, the partition refines the one below
-  keyed_refines : (s : Shape) (below block : List (Option ℕ)) (key : ℕ → Option (List ℕ)) → IsPartition s below → IsPartition s block → AreApart key
+  keyed_refines : (s : Shape) (below block : List (Option ℕ)) (key : ℕ → Option (List ℕ)) → IsPartition s below → IsPartition s block → AreDistinctKeys key
       → ((n : ℕ) → IsKeyed which s below block key n) → RefinesBy (at below) (IsAround which s below) block
   keyed_refines s below block key p q apart keyed = record {
     kept = λ n h. q.live n (p.only n h);
@@ -43,7 +43,7 @@ module _ (which : Sides) where
 
   -- Where each node's block has the node's key, and no two blocks have one key, the partition is the next level.
   pub keyed_level : (s : Shape) (below block : List (Option ℕ)) (key : ℕ → Option (List ℕ)) (i : ℕ) → IsShape s → Agrees s below (AtLevel which s i) → IsPartition s block
-      → AreApart key → ((n : ℕ) → IsKeyed which s below block key n) → Agrees s block (AtLevel which s (suc i))
+      → AreDistinctKeys key → ((n : ℕ) → IsKeyed which s below block key n) → Agrees s block (AtLevel which s (suc i))
   keyed_level s below block key i shape a partition apart keyed =
       refined_level which s shape below block (keyed_refines s below block key a.partition partition apart keyed) i a
 

@@ -12,13 +12,13 @@ use Rattle.bisim_spec.specs.Refinement.{Refines}
 use Rattle.bisim_levels.proofs.LabelledNodes.{node_number, number_node}
 use Rattle.bisim_levels.proofs.LevelLaws.{labels_agree}
 use Rattle.one_spec.specs.BlockLabels.{BlocksHaveLabels}
-use Rattle.level_spec.specs.Keyed.{AreApart, AreLabelled}
+use Rattle.level_spec.specs.Keyed.{AreDistinctKeys, AreLabelled}
 
 some_same : (a b c d : ℕ) → Some a ≡ Some b → Some c ≡ Some d → a ≡ c → b ≡ d
 some_same a b c d e f h = cc
 
 refines : (g : Graph) (block labels : List (Option ℕ)) (key : ℕ → Option (List ℕ)) → IsGraph g → IsPartition (shape_of g) block
-    → BlocksHaveLabels block (at labels) (label_number g) → AreLabelled labels key → AreApart key → Refines (label_number g) [] no_neighbours block
+    → BlocksHaveLabels block (at labels) (label_number g) → AreLabelled labels key → AreDistinctKeys key → Refines (label_number g) [] no_neighbours block
 refines g block labels key graph partition block_labels labelled apart = record {
   kept = λ n h. partition.live n (number_node g n h);
   only = λ n h. node_number g graph n (partition.only n h);
@@ -50,5 +50,5 @@ refines g block labels key graph partition block_labels labelled apart = record 
 
 -- where keys are labels, and no two blocks have one, the partition is that by labels
 pub lowest_agrees : (g : Graph) (block labels : List (Option ℕ)) (key : ℕ → Option (List ℕ)) → IsGraph g → IsPartition (shape_of g) block
-    → BlocksHaveLabels block (at labels) (label_number g) → AreLabelled labels key → AreApart key → Agrees (shape_of g) block (SameLabel (shape_of g))
+    → BlocksHaveLabels block (at labels) (label_number g) → AreLabelled labels key → AreDistinctKeys key → Agrees (shape_of g) block (SameLabel (shape_of g))
 lowest_agrees g block labels key graph partition block_labels labelled apart = labels_agree g graph block (refines g block labels key graph partition block_labels labelled apart)

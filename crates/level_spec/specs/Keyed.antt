@@ -17,7 +17,7 @@ pub record IsKeyed (sides : Sides) (s : Shape) (below block : List (Option ℕ))
   pub keyed : (b : ℕ) → at block n ≡ Some b → (numbers : List ℕ) × (key b ≡ Some numbers) × IsSidedKey sides s below n numbers
 
 -- no two blocks have one key
-pub record AreApart (key : ℕ → Option (List ℕ)) : Type 0 where
+pub record AreDistinctKeys (key : ℕ → Option (List ℕ)) : Type 0 where
   pub apart : (a b : ℕ) (numbers : List ℕ) → key a ≡ Some numbers → key b ≡ Some numbers → a ≡ b
 
 -- keys that blocks have stay theirs

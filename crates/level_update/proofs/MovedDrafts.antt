@@ -15,7 +15,7 @@ use Rattle.quotient_draft.specs.Drafts.{has_member, inhabited_from, settled_view
 use Rattle.quotient_draft.proofs.Gone.{member_at, member_there}
 use Rattle.keyed_quotient.specs.KeyedQuotients.{KeyedQuotient, key_at}
 use Rattle.keyed_quotient.specs.Changes.{KeyedChanges, blocks_as_shown, labels_as_shown, support_as_shown, AreUnsupported}
-use Rattle.level_spec.specs.Keyed.{IsKeyed, AreApart, SameFar, IsLevelOf}
+use Rattle.level_spec.specs.Keyed.{IsKeyed, AreDistinctKeys, SameFar, IsLevelOf}
 use Rattle.level_spec.proofs.AffectedLevels.{keyed_level, keyed_after}
 use Rattle.level_spec.proofs.LowestLevel.{lowest_agrees}
 use Rattle.level_spec.proofs.SupportedKeys.{keyed_by_supports, none_from, none_onto}
@@ -36,7 +36,7 @@ pub record HaveMoved (sides : Sides) (ends : ℕ → Bool) (g g2 : Graph) (f : L
   pub some : 0 < length f
 
 -- no two blocks of a level have one key
-apart_at : (sides : Sides) (ends : ℕ → Bool) (g g2 : Graph) (f : List KeyedQuotient) (d : List KeyedChanges) → HaveMoved sides ends g g2 f d → (i : ℕ) → i < length f → AreApart (key_shown f d i)
+apart_at : (sides : Sides) (ends : ℕ → Bool) (g g2 : Graph) (f : List KeyedQuotient) (d : List KeyedChanges) → HaveMoved sides ends g g2 f d → (i : ℕ) → i < length f → AreDistinctKeys (key_shown f d i)
 apart_at sides ends g g2 f d w i h = record { apart = (w.moving.over.each i h).keyed.apart }
 
 -- above the lowest level each node is in the block of its key

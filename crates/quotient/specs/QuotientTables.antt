@@ -30,8 +30,8 @@ pub record KeptLists : Type 0 where
   pub reserved : List ℕ
 
 -- what is reserved in the tables of supports, of children and of parents
-abbrev pub room_of : KeptPairs → KeptLists → KeptLists → ReservedPairs
-room_of supports children parents = record { span = length children.lists; pairs = supports.reserved; children = children.reserved; parents = parents.reserved }
+abbrev pub reserved_in : KeptPairs → KeptLists → KeptLists → ReservedPairs
+reserved_in supports children parents = record { span = length children.lists; pairs = supports.reserved; children = children.reserved; parents = parents.reserved }
 
 -- each list has as much reserved as before, but this one may have one fewer
 pub record UsesOne (n : ℕ) (old new : List ℕ) : Type 0 where

@@ -5,7 +5,7 @@ ghost use Rattle.bisim_spec.specs.Supports.{joins, support};
 ghost use Rattle.bisim_spec.specs.IndexGraphs.{support_at};
 ghost use Rattle.quotient.specs.QuotientNeighbours.{AreNeighbourLists, AreLive, AreBelow, AreFew, AddsPairIf, CountsPairs, SameTotals, total_support};
 
-use crate::joins::Joins;
+use crate::block_edges::BlockEdges;
 use block_partition::Blocks;
 use px_base::{Memory, NodeId};
 use std::alloc::Global;
@@ -50,39 +50,42 @@ pub(crate) fn gather_edge(
 }
 
 /// Counts the pairs of blocks.
-pub(crate) fn count_pairs(joins: &mut Joins, pairs: &[(u32, u32)]) -> Result<(), Memory>
-    requires few { (x y : ℕ) → total_support joins.old.supports.pairs pairs.now x y ≤ 2 ^ 30 }
-    requires below { AreBelow (length joins.old.children.lists) pairs.now }
-    requires neighbour_lists { AreNeighbourLists joins.old.supports.pairs joins.old.children.lists joins.old.parents.lists }
-    requires lengths { length joins.old.parents.lists ≡ length joins.old.children.lists }
-    ensures supports { OnOk result (CountsPairs pairs.now joins.old.supports.pairs joins.new.supports.pairs) }
-    ensures neighbour_lists { OnOk result (AreNeighbourLists joins.new.supports.pairs joins.new.children.lists joins.new.parents.lists) }
-    ensures children { OnOk result (length joins.new.children.lists ≡ length joins.old.children.lists) }
-    ensures parents { OnOk result (length joins.new.parents.lists ≡ length joins.old.parents.lists) }
+pub(crate) fn count_pairs(block_edges: &mut BlockEdges, pairs: &[(u32, u32)]) -> Result<(), Memory>
+    requires few { (x y : ℕ) → total_support block_edges.old.supports.pairs pairs.now x y ≤ 2 ^ 30 }
+    requires below { AreBelow (length block_edges.old.children.lists) pairs.now }
+    requires neighbour_lists { AreNeighbourLists block_edges.old.supports.pairs block_edges.old.children.lists block_edges.old.parents.lists }
+    requires lengths { length block_edges.old.parents.lists ≡ length block_edges.old.children.lists }
+    ensures supports { OnOk result (CountsPairs pairs.now block_edges.old.supports.pairs block_edges.new.supports.pairs) }
+    ensures neighbour_lists { OnOk result (AreNeighbourLists block_edges.new.supports.pairs block_edges.new.children.lists block_edges.new.parents.lists) }
+    ensures children { OnOk result (length block_edges.new.children.lists ≡ length block_edges.old.children.lists) }
+    ensures parents { OnOk result (length block_edges.new.parents.lists ≡ length block_edges.old.parents.lists) }
 {
     for (a, b) in pairs {
-        joins.count(*a, *b)?;
+        block_edges.count(*a, *b)?;
     }
     Ok(())
 }
 
 /// Counts the pairs of blocks that were gathered, once they are many.
 #[inline(always)]
-pub(crate) fn count_batch(joins: &mut Joins, pairs: &mut Vec<(u32, u32)>) -> Result<(), Memory>
-    requires few { (x y : ℕ) → total_support joins.old.supports.pairs pairs.old.items x y ≤ 2 ^ 30 }
-    requires below { AreBelow (length joins.old.children.lists) pairs.old.items }
-    requires neighbour_lists { AreNeighbourLists joins.old.supports.pairs joins.old.children.lists joins.old.parents.lists }
-    requires lengths { length joins.old.parents.lists ≡ length joins.old.children.lists }
-    ensures supports { OnOk result (SameTotals joins.old.supports.pairs pairs.old.items joins.new.supports.pairs pairs.new.items) }
-    ensures below { OnOk result (AreBelow (length joins.new.children.lists) pairs.new.items) }
-    ensures neighbour_lists { OnOk result (AreNeighbourLists joins.new.supports.pairs joins.new.children.lists joins.new.parents.lists) }
-    ensures children { OnOk result (length joins.new.children.lists ≡ length joins.old.children.lists) }
-    ensures parents { OnOk result (length joins.new.parents.lists ≡ length joins.old.parents.lists) }
+pub(crate) fn count_batch(
+    block_edges: &mut BlockEdges,
+    pairs: &mut Vec<(u32, u32)>,
+) -> Result<(), Memory>
+    requires few { (x y : ℕ) → total_support block_edges.old.supports.pairs pairs.old.items x y ≤ 2 ^ 30 }
+    requires below { AreBelow (length block_edges.old.children.lists) pairs.old.items }
+    requires neighbour_lists { AreNeighbourLists block_edges.old.supports.pairs block_edges.old.children.lists block_edges.old.parents.lists }
+    requires lengths { length block_edges.old.parents.lists ≡ length block_edges.old.children.lists }
+    ensures supports { OnOk result (SameTotals block_edges.old.supports.pairs pairs.old.items block_edges.new.supports.pairs pairs.new.items) }
+    ensures below { OnOk result (AreBelow (length block_edges.new.children.lists) pairs.new.items) }
+    ensures neighbour_lists { OnOk result (AreNeighbourLists block_edges.new.supports.pairs block_edges.new.children.lists block_edges.new.parents.lists) }
+    ensures children { OnOk result (length block_edges.new.children.lists ≡ length block_edges.old.children.lists) }
+    ensures parents { OnOk result (length block_edges.new.parents.lists ≡ length block_edges.old.parents.lists) }
 {
     if pairs.len() < BATCH {
         return Ok(());
     }
-    count_pairs(joins, pairs)?;
+    count_pairs(block_edges, pairs)?;
     pairs.clear();
     Ok(())
 }
@@ -94,7 +97,7 @@ pub(crate) fn count_edges(
     alloc: Global,
     blocks: &Blocks,
     edges: &[(NodeId, NodeId)],
-) -> Result<Joins, Memory>
+) -> Result<BlockEdges, Memory>
     requires few { AreFew edges.now }
     ensures supports { IfOk result (λ j. (a b : ℕ) → support_at j.supports.pairs a b ≡ support edges.now blocks.now.block_of a b) }
     ensures live { IfOk result (λ j. AreLive blocks.now j.supports.pairs) }
@@ -103,12 +106,12 @@ pub(crate) fn count_edges(
     ensures parents { IfOk result (λ j. length j.parents.lists ≡ length blocks.now.labels) }
 {
     let span = blocks.span() as usize;
-    let mut joins = Joins::new(alloc, span, edges.len().min(2 * span), true)?;
+    let mut block_edges = BlockEdges::new(alloc, span, edges.len().min(2 * span), true)?;
     let mut pairs = Vec::with_capacity(alloc, BATCH)?;
     for (from, onto) in edges {
         gather_edge(&mut pairs, blocks, *from, *onto)?;
-        count_batch(&mut joins, &mut pairs)?;
+        count_batch(&mut block_edges, &mut pairs)?;
     }
-    count_pairs(&mut joins, &pairs)?;
-    Ok(joins)
+    count_pairs(&mut block_edges, &pairs)?;
+    Ok(block_edges)
 }

@@ -27,7 +27,7 @@ impl Summary {
         ensures children { self.new.reserved.children ≡ self.old.reserved.children }
         ensures parents { self.new.reserved.parents ≡ self.old.reserved.parents }
     {
-        self.joins.supports.reserve(pairs)?;
+        self.block_edges.supports.reserve(pairs)?;
         self.blocks.reserve(nodes, blocks)?;
         Ok(())
     }
@@ -41,7 +41,7 @@ impl Summary {
         ensures span { OnOk result (span ≤ self.new.reserved.span) }
         ensures labels { length self.new.blocks.labels ≤ self.new.reserved.span }
     {
-        self.joins.grow(span as usize)?;
+        self.block_edges.grow(span as usize)?;
         Ok(())
     }
 
@@ -57,7 +57,7 @@ impl Summary {
         ensures parents { self.new.reserved.parents ≡ self.old.reserved.parents }
         ensures ok { OnOk result (more ≤ slice_index self.new.reserved.children b) }
     {
-        self.joins.children.reserve(b, more)
+        self.block_edges.children.reserve(b, more)
     }
 
     /// Reserves capacity for that many further parents of a block. It leaves the quotient as it is seen. O(1), and O(p)
@@ -72,7 +72,7 @@ impl Summary {
         ensures parents { GivesMore self.old.reserved.parents self.new.reserved.parents }
         ensures ok { OnOk result (more ≤ slice_index self.new.reserved.parents b) }
     {
-        self.joins.parents.reserve(b, more)
+        self.block_edges.parents.reserve(b, more)
     }
 }
 
@@ -122,7 +122,7 @@ impl Summary {
         ensures children { UsesOne a self.old.reserved.children self.new.reserved.children }
         ensures parents { UsesOne b self.old.reserved.parents self.new.reserved.parents }
     {
-        self.joins.set(a, b, n);
+        self.block_edges.set(a, b, n);
     }
 
     /// Takes a block without members and without support away; its number is free again. O(1), no memory.

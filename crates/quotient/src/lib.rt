@@ -4,12 +4,12 @@
 //! nodes are the blocks, and edges join pairs with support.
 #![tactic(auto)]
 
+mod block_edges;
 mod block_neighbours;
 mod counting;
 mod edges;
 mod editing;
 mod graph_edges;
-mod joins;
 mod places;
 mod summary;
 mod supports;

@@ -6,10 +6,10 @@ ghost use Rattle.bisim_spec.specs.Supports.{support};
 ghost use Rattle.bisim_spec.specs.IndexGraphs.{support_at};
 ghost use Rattle.quotient.specs.Quotients.{AreSupports, pair_count, is_adjacent, HasShapeOfView};
 
+use crate::block_edges::BlockEdges;
 use crate::counting::count_edges;
 use crate::edges::EdgeList;
 use crate::graph_edges::count_graph;
-use crate::joins::Joins;
 use block_partition::{Blocks, Members};
 use label_graph::{Digraph, GraphView};
 use px_base::{Memory, NodeId};
@@ -27,15 +27,18 @@ use std::marker::Model;
 ///     let edges = summary.support(0, 1);
 pub struct Summary {
     pub(crate) blocks: Blocks,
-    pub(crate) joins: Joins,
+    pub(crate) block_edges: BlockEdges,
 }
 
 impl Drop for Summary {
     // By hand, so that no crate above proves how the tables are dropped.
     fn drop(self) {
-        let Summary { blocks, joins } = self;
+        let Summary {
+            blocks,
+            block_edges,
+        } = self;
         drop(blocks);
-        drop(joins);
+        drop(block_edges);
     }
 }
 
@@ -47,15 +50,15 @@ impl Model for Summary {
     ghost coded = { quotient_code };
 
     ghost use Rattle.quotient.specs.QuotientNeighbours.{IsSoundQuotient};
-    ghost use Rattle.quotient.specs.QuotientTables.{room_of};
+    ghost use Rattle.quotient.specs.QuotientTables.{reserved_in};
 
     ghost view = { λ s. record {
       blocks = s.blocks;
-      supports = s.joins.supports.pairs;
-      reserved = room_of s.joins.supports s.joins.children s.joins.parents;
+      supports = s.block_edges.supports.pairs;
+      reserved = reserved_in s.block_edges.supports s.block_edges.children s.block_edges.parents;
     } };
 
-    ghost invariant = { λ s. IsSoundQuotient s.blocks s.joins.supports.pairs s.joins.children.lists s.joins.parents.lists };
+    ghost invariant = { λ s. IsSoundQuotient s.blocks s.block_edges.supports.pairs s.block_edges.children.lists s.block_edges.parents.lists };
 }
 
 impl Summary {
@@ -65,8 +68,11 @@ impl Summary {
         ensures blocks { IfOk result (λ s. s.blocks ≡ blocks) }
         ensures supports { IfOk result (λ s. AreSupports view.now.edges blocks.block_of s.supports) }
     {
-        let joins = count_graph(alloc, &blocks, view, true)?;
-        Ok(Summary { blocks, joins })
+        let block_edges = count_graph(alloc, &blocks, view, true)?;
+        Ok(Summary {
+            blocks,
+            block_edges,
+        })
     }
 
     /// The same, in less memory: 8 bytes less for each pair with support. It serves a quotient that is only read, since
@@ -75,8 +81,11 @@ impl Summary {
         ensures blocks { IfOk result (λ s. s.blocks ≡ blocks) }
         ensures supports { IfOk result (λ s. AreSupports view.now.edges blocks.block_of s.supports) }
     {
-        let joins = count_graph(alloc, &blocks, view, false)?;
-        Ok(Summary { blocks, joins })
+        let block_edges = count_graph(alloc, &blocks, view, false)?;
+        Ok(Summary {
+            blocks,
+            block_edges,
+        })
     }
 
     /// The quotient by a partition, from a list of edges: the support of a pair of blocks is the number of
@@ -87,8 +96,11 @@ impl Summary {
         ensures blocks { IfOk result (λ s. s.blocks ≡ blocks) }
         ensures supports { IfOk result (λ s. (a b : ℕ) → support_at s.supports a b ≡ support edges.now blocks.block_of a b) }
     {
-        let joins = count_edges(alloc, &blocks, edges.as_slice())?;
-        Ok(Summary { blocks, joins })
+        let block_edges = count_edges(alloc, &blocks, edges.as_slice())?;
+        Ok(Summary {
+            blocks,
+            block_edges,
+        })
     }
 
     /// The block of a node, and none where it has none. O(1), no memory.
@@ -145,7 +157,7 @@ impl Summary {
     pub fn support(&self, a: u32, b: u32) -> u32
         ensures { result ≡ support_at self.now.supports a b }
     {
-        self.joins.supports.get(a, b)
+        self.block_edges.supports.get(a, b)
     }
 
     /// How many blocks there are: at most 2^31. O(1), no memory.
@@ -161,7 +173,7 @@ impl Summary {
     pub fn pairs(&self) -> u64
         ensures { result ≡ pair_count self.now.supports }
     {
-        self.joins.supports.pairs() as u64
+        self.block_edges.supports.pairs() as u64
     }
 
     /// The length of the list of blocks: at most 2^31. Numbers past its end have no block. O(1), no memory.
@@ -198,11 +210,11 @@ impl Digraph for Summary {
     }
 
     fn parents(&self, b: u32) -> &[u32] {
-        self.joins.parents.get(b)
+        self.block_edges.parents.get(b)
     }
 
     fn children(&self, b: u32) -> &[u32] {
-        self.joins.children.get(b)
+        self.block_edges.children.get(b)
     }
 
     ghost below = { below_span };

@@ -183,7 +183,7 @@ fn reserved_labels(rt: HostRuntime) -> Result<(), Fail> {
     let second = Text::from_bytes(alloc, b"second")?;
     graph.reserve_node(alloc, &first)?;
     graph.reserve_label(alloc, &first)?;
-    graph.clear_room();
+    graph.clear_reserved();
     graph.reserve_node(alloc, &second)?;
     graph.reserve_node(alloc, &first)?;
     assert!(rt; graph.labels().len() == 0 && graph.labels().find(&second).is_none());

@@ -10,13 +10,13 @@ use Rattle.quotient.proofs.counting.count_edges.Goals as goal
 pub loop-from-init : goal.loop-from-init
 loop-from-init c = record {
   supports = λ x y.
-      let none = support_none c.in_ok-joins.joins.supports.pairs x y c.in_ok-joins.ensures.supports in
+      let none = support_none c.in_ok-block_edges.block_edges.supports.pairs x y c.in_ok-block_edges.ensures.supports in
       let waits = no_pairs c.in_ok-pairs.pairs.items x y c.in_ok-pairs.ensures.items in
       omega (arith, none, waits);
-  below = none_below (length c.in_ok-joins.joins.children.lists) c.in_ok-pairs.pairs.items c.in_ok-pairs.ensures.items;
-  neighbour_lists = c.in_ok-joins.ensures.neighbour_lists;
-  children = c.in_ok-joins.ensures.children ∙ c.span-span.ensures.span;
-  parents = c.in_ok-joins.ensures.parents ∙ c.span-span.ensures.span;
+  below = none_below (length c.in_ok-block_edges.block_edges.children.lists) c.in_ok-pairs.pairs.items c.in_ok-pairs.ensures.items;
+  neighbour_lists = c.in_ok-block_edges.ensures.neighbour_lists;
+  children = c.in_ok-block_edges.ensures.children ∙ c.span-span.ensures.span;
+  parents = c.in_ok-block_edges.ensures.parents ∙ c.span-span.ensures.span;
 }
 
 pub count_batch-requires-clause-few : goal.count_batch-requires-clause-few

@@ -6,9 +6,9 @@ use Rattle.quotient.proofs.counting.count_edges.Given as goal
 
 abbrev pub invariant-loop-from : goal.invariant-loop-from
 invariant-loop-from l = record {
-  supports : (x y : ℕ) → support_at l.joins.supports.pairs x y + pairs_with l.pairs.items x y ≡ support (take l.from-index l.edges) l.blocks.block_of x y;
-  below : AreBelow (length l.joins.children.lists) l.pairs.items;
-  neighbour_lists : AreNeighbourLists l.joins.supports.pairs l.joins.children.lists l.joins.parents.lists;
-  children : length l.joins.children.lists ≡ length l.blocks.labels;
-  parents : length l.joins.parents.lists ≡ length l.blocks.labels;
+  supports : (x y : ℕ) → support_at l.block_edges.supports.pairs x y + pairs_with l.pairs.items x y ≡ support (take l.from-index l.edges) l.blocks.block_of x y;
+  below : AreBelow (length l.block_edges.children.lists) l.pairs.items;
+  neighbour_lists : AreNeighbourLists l.block_edges.supports.pairs l.block_edges.children.lists l.block_edges.parents.lists;
+  children : length l.block_edges.children.lists ≡ length l.blocks.labels;
+  parents : length l.block_edges.parents.lists ≡ length l.blocks.labels;
 }

@@ -5,8 +5,8 @@ use Rattle.quotient.proofs.counting.count_pairs.Given as goal
 
 abbrev pub invariant-loop-a : goal.invariant-loop-a
 invariant-loop-a l = record {
-  supports : (x y : ℕ) → support_at l.joins.supports.pairs x y ≡ support_at l.fn.joins.supports.pairs x y + pairs_with (take l.a-index l.pairs) x y;
-  neighbour_lists : AreNeighbourLists l.joins.supports.pairs l.joins.children.lists l.joins.parents.lists;
-  children : length l.joins.children.lists ≡ length l.fn.joins.children.lists;
-  parents : length l.joins.parents.lists ≡ length l.fn.joins.parents.lists;
+  supports : (x y : ℕ) → support_at l.block_edges.supports.pairs x y ≡ support_at l.fn.block_edges.supports.pairs x y + pairs_with (take l.a-index l.pairs) x y;
+  neighbour_lists : AreNeighbourLists l.block_edges.supports.pairs l.block_edges.children.lists l.block_edges.parents.lists;
+  children : length l.block_edges.children.lists ≡ length l.fn.block_edges.children.lists;
+  parents : length l.block_edges.parents.lists ≡ length l.fn.block_edges.parents.lists;
 }

@@ -10,15 +10,15 @@ pub loop-n-init : goal.loop-n-init
 loop-n-init c = record {
   counted = record {
     same = λ x y.
-        let none = support_none c.in_ok-joins.joins.supports.pairs x y c.in_ok-joins.ensures.supports in
+        let none = support_none c.in_ok-block_edges.block_edges.supports.pairs x y c.in_ok-block_edges.ensures.supports in
         let waits = no_pairs c.in_ok-pairs.pairs.items x y c.in_ok-pairs.ensures.items in
         let zero = below_zero c.args.view.now.edges c.args.blocks.now.block_of x y in
         omega (arith, none, waits, zero);
   };
-  below = none_below (length c.in_ok-joins.joins.children.lists) c.in_ok-pairs.pairs.items c.in_ok-pairs.ensures.items;
-  neighbour_lists = c.in_ok-joins.ensures.neighbour_lists;
-  children = c.in_ok-joins.ensures.children ∙ c.span-span.ensures.span;
-  parents = c.in_ok-joins.ensures.parents ∙ c.span-span.ensures.span;
+  below = none_below (length c.in_ok-block_edges.block_edges.children.lists) c.in_ok-pairs.pairs.items c.in_ok-pairs.ensures.items;
+  neighbour_lists = c.in_ok-block_edges.ensures.neighbour_lists;
+  children = c.in_ok-block_edges.ensures.children ∙ c.span-span.ensures.span;
+  parents = c.in_ok-block_edges.ensures.parents ∙ c.span-span.ensures.span;
 }
 
 pub loop-n-preserved : goal.loop-n-preserved

@@ -4,7 +4,7 @@ use Rattle.bisim_spec.specs.IndexGraphs.{SupportTable}
 use Rattle.quotient.specs.QuotientNeighbours.{AreNeighbourLists}
 use Rattle.quotient.specs.QuotientTables.{KeptPairs}
 use Rattle.quotient.proofs.Taken.{neighbour_lists_taken, neighbour_lists_there}
-use Rattle.quotient.proofs.joins.Joins.part.Goals as goal
+use Rattle.quotient.proofs.block_edges.BlockEdges.part.Goals as goal
 
 pub remove-i-requires-clause-member : goal.remove-i-requires-clause-member
 remove-i-requires-clause-member c =

@@ -2,7 +2,7 @@ use Rattle.std.proofs.Common.{◌∙◌, ap}
 use Rattle.quotient.specs.QuotientNeighbours.{list_at}
 use Rattle.quotient.proofs.NeighbourListLaws.{neighbour_lists_none}
 use Rattle.quotient.proofs.Pairs.{list_of_none}
-use Rattle.quotient.proofs.joins.Joins.new.Goals as goal
+use Rattle.quotient.proofs.block_edges.BlockEdges.new.Goals as goal
 
 pub returns-clause-neighbour_lists : goal.returns-clause-neighbour_lists
 returns-clause-neighbour_lists c =

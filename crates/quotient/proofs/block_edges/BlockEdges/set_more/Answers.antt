@@ -6,7 +6,7 @@ use Rattle.quotient.specs.QuotientNeighbours.{AreNeighbourLists, is_supported}
 use Rattle.quotient.specs.QuotientTables.{IsWritten}
 use Rattle.quotient.proofs.ReservedCapacity.{uses_none}
 use Rattle.quotient.proofs.Taken.{neighbour_lists_still}
-use Rattle.quotient.proofs.joins.Joins.set_more.Goals as goal
+use Rattle.quotient.proofs.block_edges.BlockEdges.set_more.Goals as goal
 
 pub returns-then-n-eq0 : goal.returns-then-n-eq0
 returns-then-n-eq0 c =

@@ -1,7 +1,7 @@
 use Rattle.std.proofs.Common.{refl, []}
 use Rattle.label_graph.proofs.KeepsSound.{sound-cleared}
 use Rattle.label_graph.proofs.Additions.{sound-as}
-use Rattle.label_graph.proofs.graph.Graph.clear_room.Goals as goal
+use Rattle.label_graph.proofs.graph.Graph.clear_reserved.Goals as goal
 
 pub invariant_of-self : goal.invariant_of-self
 invariant_of-self c =

@@ -2,7 +2,7 @@ use Rattle.std.proofs.Common.{sym, ◌∙◌}
 use Rattle.bisim_spec.specs.IndexGraphs.{support_at}
 use Rattle.quotient.proofs.Looked.{support_raised}
 use Rattle.quotient.proofs.NeighbourListLaws.{neighbour_lists_more, neighbour_lists_first, zero_from, some_from}
-use Rattle.quotient.proofs.joins.Joins.count.Goals as goal
+use Rattle.quotient.proofs.block_edges.BlockEdges.count.Goals as goal
 
 pub returns-in_ok-push-2-clause-supports : goal.returns-in_ok-push-2-clause-supports
 returns-in_ok-push-2-clause-supports c = λ x y. rw (c.push_place.ensures, c.in_ok-raise.ensures.raised) (support_raised c.args.self.now.supports.pairs c.args.a c.args.b x y)

@@ -13,26 +13,26 @@ use std::alloc::Global;
 
 /// The supports, and the neighbours of each block by them.
 #[derive(Drop)]
-pub(crate) struct Joins {
+pub(crate) struct BlockEdges {
     pub(crate) supports: Supports,
     pub(crate) children: BlockNeighbours,
     pub(crate) parents: BlockNeighbours,
 }
 
-impl Joins {
+impl BlockEdges {
     /// No edges, between that many blocks, and capacity for that many pairs, whose places are noted if `is_noting`.
     pub(crate) fn new(
         alloc: Global,
         blocks: usize,
         pairs: usize,
         is_noting: bool,
-    ) -> Result<Joins, Memory>
+    ) -> Result<BlockEdges, Memory>
         ensures supports { IfOk result (λ j. j.supports.pairs ≡ table.empty) }
         ensures neighbour_lists { IfOk result (λ j. AreNeighbourLists j.supports.pairs j.children.lists j.parents.lists) }
         ensures children { IfOk result (λ j. length j.children.lists ≡ blocks) }
         ensures parents { IfOk result (λ j. length j.parents.lists ≡ blocks) }
     {
-        Ok(Joins {
+        Ok(BlockEdges {
             supports: Supports::with_reserved(alloc, pairs, is_noting)?,
             children: BlockNeighbours::new(alloc, blocks)?,
             parents: BlockNeighbours::new(alloc, blocks)?,
