@@ -1,9 +1,11 @@
 -- The other ends of pairs.
-use Rattle.std.proofs.Common.{◌≡◌, ℕ, ◌+◌, List, [], ◌∷◌, ◌++◌, length, Some, None, refl, sym, ◌∙◌, ap, arith, inl, inr, true, false, Bool, cond, ◌&&◌, ◌||◌, filter_map, count_by}
+use Rattle.std.proofs.Common.{◌≡◌, ℕ, ◌+◌, ◌-◌, take, List, [], ◌∷◌, ◌++◌, length, Some, None, refl, sym, ◌∙◌, ap, arith, inl, inr, true, false, Bool, cond, ◌&&◌, ◌||◌, filter_map, count_by}
 use Rattle.std.specs.Prelude.{nat_eq}
 use Rattle.std.specs.List.{cons_option}
 use Rattle.std.specs.Map.{lookup, keys_of}
+use Rattle.std.proofs.lemmas.List.{length-append}
 use Rattle.std.proofs.lemmas.List.Elements.{filter_map-append}
+use Rattle.std.proofs.Math.Seq.{take-append_seam}
 use Rattle.graph_spec.specs.Members.{has}
 use Rattle.quotient.specs.QuotientNeighbours.{one_if}
 use Rattle.quotient_draft.specs.Drafts.{is_pair}
@@ -75,3 +77,9 @@ pub ends_more : (f g : ℕ × ℕ → ℕ) (ps : List (ℕ × ℕ)) (q : ℕ × 
 ends_more f g ps q x =
     filter_map-append (λ (p : ℕ × ℕ). cond (nat_eq x (f p)) (Some (g p)) None) ps (q ∷ [])
     ∙ ap (λ ys. filter_map (λ (p : ℕ × ℕ). cond (nat_eq x (f p)) (Some (g p)) None) ps ++ ys) (single (nat_eq x (f q)) (g q))
+
+-- a list without the end that was noted last
+pub taken_back : (end : ℕ) (ys xs : List ℕ) → xs ≡ ys ++ end ∷ [] → take (length xs - 1) xs ≡ ys
+taken_back end ys xs e =
+    let len : length xs ≡ length ys + 1 = ap length e ∙ length-append ys (end ∷ []) in
+    ap (λ n. take n xs) (let one : length xs - 1 ≡ length ys = omega (arith, len) in one) ∙ ap (take (length ys)) e ∙ take-append_seam ys (end ∷ [])

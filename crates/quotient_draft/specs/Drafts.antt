@@ -3,6 +3,7 @@
 use Rattle.std.specs.Prelude.{ℕ, ◌≡◌, ◌+◌, ◌&&◌, Bool, List, [], ◌∷◌, ◌++◌, Option, None, Some, cond, nat_eq, refl, if◌then◌else◌, false}
 use Rattle.std.specs.Coded.{Coded, code_by, coded×, coded_ℕ, coded_list, coded_option}
 use Rattle.std.specs.List.{list_any}
+use Rattle.std.specs.Map.{lookup}
 use Rattle.graph_spec.specs.Members.{is_this, at, has}
 use Rattle.block_partition.specs.LabelledPartitions.{put}
 use Rattle.bisim_spec.specs.IndexGraphs.{View, SupportTable, support_at}
@@ -74,6 +75,10 @@ is_pair p q = nat_eq p.0 q.0 && nat_eq p.1 q.1
 -- the node goes into this block, or into none, and all others stay
 abbrev pub PutsNode : ℕ → Option ℕ → List (Option ℕ) → List (Option ℕ) → Type 0
 PutsNode n b block block2 = (m : ℕ) → at block2 m ≡ (if nat_eq m n then b else at block m)
+
+-- n is drafted for this pair, and for each other what was
+abbrev pub DraftsPair : ℕ → ℕ → ℕ → List ((ℕ × ℕ) × ℕ) → List ((ℕ × ℕ) × ℕ) → Type 0
+DraftsPair a b n old new = (p : ℕ × ℕ) → lookup (is_pair p) new ≡ (if is_pair p (a, b) then Some n else lookup (is_pair p) old)
 
 -- the support of this pair is n, and no other changes
 abbrev pub SetsPair : ℕ → ℕ → ℕ → (ℕ → ℕ → ℕ) → (ℕ → ℕ → ℕ) → Type 0

@@ -1,15 +1,16 @@
 // Supports that are drafted.
-ghost use Rattle.std.specs.Prelude.{◌≡◌, ◌<◌, ◌≤◌, [], ℕ, None, Some, IsSome, false, OnOk, OnErr, length, slice_index, if◌then◌else◌};
+ghost use Rattle.std.specs.Prelude.{◌≡◌, ◌<◌, ◌≤◌, [], ℕ, None, Some, IsSome, is_some, false, OnOk, OnErr, length, slice_index};
 ghost use Rattle.std.specs.Map.{lookup, keys_of};
 ghost use Rattle.graph_spec.specs.Members.{at, has};
 ghost use Rattle.bisim_spec.specs.IndexGraphs.{SupportTable, support_at};
 ghost use Rattle.quotient.specs.Quotients.{view_of};
-ghost use Rattle.quotient_draft.specs.Drafts.{with_supports, is_pair, SetsPair, SupportsStayBut};
+ghost use Rattle.quotient_draft.specs.Drafts.{with_supports, is_pair, DraftsPair, SetsPair, SupportsStayBut};
 ghost use Rattle.quotient_draft.specs.ReservedCapacity.{from_count, onto_count};
 ghost use Rattle.quotient_draft.specs.Basis.{ArePairsOfBlocks};
+ghost use Rattle.quotient_draft.specs.PairEnds.{NotesEnd, HaveSameEnds};
 
 use crate::emptying::empty_table;
-use crate::ends::{Ends, ends_of, note, reserve_more};
+use crate::ends::{Ends, ends_of, forget, note};
 use indexmap::IndexMap;
 use px_base::Memory;
 use quotient::Summary;
@@ -59,9 +60,17 @@ impl Changed {
     pub(crate) fn get(&self, base: &Summary, a: u32, b: u32) -> u32
         ensures { result ≡ support_at (with_supports base.now.supports self.now) a b }
     {
+        self.find(base, a, b).0
+    }
+
+    /// The support of a pair as shown, and whether it is drafted.
+    pub(crate) fn find(&self, base: &Summary, a: u32, b: u32) -> (u32, bool)
+        ensures support { result.0 ≡ support_at (with_supports base.now.supports self.now) a b }
+        ensures drafted { result.1 ≡ is_some (lookup (is_pair (a, b)) self.now) }
+    {
         match self.pairs.get(&(a, b)) {
-            Some(n) => *n,
-            None => base.support(a, b),
+            Some(n) => (*n, true),
+            None => (base.support(a, b), false),
         }
     }
 
@@ -86,22 +95,31 @@ impl Changed {
         self.onto.keys().as_slice()
     }
 
+    /// Whether the support of a pair is drafted.
+    pub(crate) fn is_drafted(&self, a: u32, b: u32) -> bool
+        ensures { result ≡ is_some (lookup (is_pair (a, b)) self.now) }
+    {
+        self.pairs.contains_key(&(a, b))
+    }
+
     /// Drafts the support of a pair.
-    pub(crate) fn set(&mut self, a: u32, b: u32, n: u32) -> Result<(), Memory>
-        ensures looked { OnOk result ((p : ℕ × ℕ) → lookup (is_pair p) self.new ≡ (if is_pair p (a, b) then Some n else lookup (is_pair p) self.old)) }
+    pub(crate) fn set(&mut self, a: u32, b: u32, n: u32, is_drafted: bool) -> Result<(), Memory>
+        requires { is_drafted ≡ is_some (lookup (is_pair (a, b)) self.old) }
+        ensures looked { OnOk result (DraftsPair a b n self.old self.new) }
         ensures shown { OnOk result ((t : SupportTable) → SetsPair a b n (support_at (with_supports t self.old)) (support_at (with_supports t self.new))) }
         ensures err { OnErr result (self.new ≡ self.old) }
     {
-        match self.pairs.get(&(a, b)) {
-            Some(_) => self.set_again(a, b, n),
-            None => self.set_first(a, b, n),
+        if is_drafted {
+            self.set_again(a, b, n)
+        } else {
+            self.set_first(a, b, n)
         }
     }
 
     // Drafts the support of a pair that has been drafted.
     fn set_again(&mut self, a: u32, b: u32, n: u32) -> Result<(), Memory>
         requires { IsSome (lookup (is_pair (a, b)) self.old) }
-        ensures looked { OnOk result ((p : ℕ × ℕ) → lookup (is_pair p) self.new ≡ (if is_pair p (a, b) then Some n else lookup (is_pair p) self.old)) }
+        ensures looked { OnOk result (DraftsPair a b n self.old self.new) }
         ensures shown { OnOk result ((t : SupportTable) → SetsPair a b n (support_at (with_supports t self.old)) (support_at (with_supports t self.new))) }
         ensures err { OnErr result (self.new ≡ self.old) }
     {
@@ -112,16 +130,16 @@ impl Changed {
     // Drafts the support of a pair that hasn't been drafted, and notes its ends.
     fn set_first(&mut self, a: u32, b: u32, n: u32) -> Result<(), Memory>
         requires { lookup (is_pair (a, b)) self.old ≡ None }
-        ensures looked { OnOk result ((p : ℕ × ℕ) → lookup (is_pair p) self.new ≡ (if is_pair p (a, b) then Some n else lookup (is_pair p) self.old)) }
+        ensures looked { OnOk result (DraftsPair a b n self.old self.new) }
         ensures shown { OnOk result ((t : SupportTable) → SetsPair a b n (support_at (with_supports t self.old)) (support_at (with_supports t self.new))) }
         ensures err { OnErr result (self.new ≡ self.old) }
     {
-        reserve_more(&mut self.from, a)?;
-        reserve_more(&mut self.onto, b)?;
-        self.pairs.insert((a, b), n)?;
-        note(&mut self.from, a, b);
-        note(&mut self.onto, b, a);
-        Ok(())
+        self.pairs.reserve(1)?;
+        note_both(&mut self.from, &mut self.onto, a, b)?;
+        match self.pairs.insert((a, b), n) {
+            Ok(_) => Ok(()),
+            Err(_) => unreachable!(),
+        }
     }
 
     /// Reserves capacity in the base for the children and the parents that blocks may get.
@@ -169,5 +187,22 @@ impl Changed {
         empty_table(&mut self.pairs);
         empty_table(&mut self.from);
         empty_table(&mut self.onto);
+    }
+}
+
+// Notes both ends of a pair. On `Memory` all ends stay.
+fn note_both(from: &mut Ends, onto: &mut Ends, a: u32, b: u32) -> Result<(), Memory>
+    ensures from { OnOk result (NotesEnd a b from.old.entries from.new.entries) }
+    ensures onto { OnOk result (NotesEnd b a onto.old.entries onto.new.entries) }
+    ensures from_err { OnErr result (HaveSameEnds from.old.entries from.new.entries) }
+    ensures onto_err { OnErr result (HaveSameEnds onto.old.entries onto.new.entries) }
+{
+    note(from, a, b)?;
+    match note(onto, b, a) {
+        Ok(()) => Ok(()),
+        Err(error) => {
+            forget(from, a);
+            Err(error)
+        }
     }
 }

@@ -165,8 +165,8 @@ impl Draft {
         ensures over { OnOk result (IsOver base.now.blocks.block_of base.now.blocks.labels self.new) }
         ensures err { OnErr result (self.new ≡ self.old) }
     {
-        let n = self.changed.get(base, a, b);
-        self.changed.set(a, b, n + 1)?;
+        let (n, is_drafted) = self.changed.find(base, a, b);
+        self.changed.set(a, b, n + 1, is_drafted)?;
         Ok(())
     }
 
@@ -184,8 +184,8 @@ impl Draft {
         ensures over { OnOk result (IsOver base.now.blocks.block_of base.now.blocks.labels self.new) }
         ensures err { OnErr result (self.new ≡ self.old) }
     {
-        let n = self.changed.get(base, a, b);
-        self.changed.set(a, b, n - 1)?;
+        let (n, is_drafted) = self.changed.find(base, a, b);
+        self.changed.set(a, b, n - 1, is_drafted)?;
         Ok(())
     }
 

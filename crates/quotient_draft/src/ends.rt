@@ -1,7 +1,6 @@
 // The other ends of pairs, by block.
-ghost use Rattle.std.specs.Prelude.{◌≡◌, ◌++◌, ◌∷◌, [], ℕ, OnOk, nat_eq, if◌then◌else◌};
-ghost use Rattle.smallvec.specs.SmallVec.{HasRoomFor};
-ghost use Rattle.quotient_draft.specs.PairEnds.{listed, HasPlace};
+ghost use Rattle.std.specs.Prelude.{◌≡◌, [], OnOk, OnErr};
+ghost use Rattle.quotient_draft.specs.PairEnds.{listed, NotesEnd, HaveSameEnds, TakesBack};
 
 use indexmap::IndexMap;
 use px_base::Memory;
@@ -20,36 +19,36 @@ pub(crate) fn ends_of(ends: &Ends, b: u32) -> &[u32]
     }
 }
 
-/// Reserves capacity for one more end of a block. The ends stay.
-pub(crate) fn reserve_more(ends: &mut Ends, b: u32) -> Result<(), Memory>
-    ensures same { (x : ℕ) → listed ends.new.entries x ≡ listed ends.old.entries x }
-    ensures reserved { OnOk result (HasPlace ends.new.entries b) }
+/// Notes one more end of a block. On `Memory` all ends stay.
+pub(crate) fn note(ends: &mut Ends, b: u32, end: u32) -> Result<(), Memory>
+    ensures ok { OnOk result (NotesEnd b end ends.old.entries ends.new.entries) }
+    ensures err { OnErr result (HaveSameEnds ends.old.entries ends.new.entries) }
 {
     match ends.get_mut(&b) {
-        Some(list) => list.reserve(1)?,
-        None => add_list(ends, b)?,
+        Some(list) => list.push(end)?,
+        None => add_list(ends, b, end)?,
     }
     Ok(())
 }
 
-// Adds an empty list.
-fn add_list(ends: &mut Ends, b: u32) -> Result<(), Memory>
+// Adds a list of one end.
+fn add_list(ends: &mut Ends, b: u32, end: u32) -> Result<(), Memory>
     requires { listed ends.old.entries b ≡ [] }
-    ensures same { (x : ℕ) → listed ends.new.entries x ≡ listed ends.old.entries x }
-    ensures reserved { OnOk result (HasPlace ends.new.entries b) }
+    ensures ok { OnOk result (NotesEnd b end ends.old.entries ends.new.entries) }
+    ensures err { OnErr result (HaveSameEnds ends.old.entries ends.new.entries) }
 {
-    let list = SmallVec::new(*ends.allocator());
+    let mut list = SmallVec::new(*ends.allocator());
+    list.push(end)?;
     ends.insert(b, list)?;
     Ok(())
 }
 
-/// Notes one more end of a block, which has capacity for it.
-pub(crate) fn note(ends: &mut Ends, b: u32, end: u32)
-    requires { HasPlace ends.old.entries b }
-    ensures { (x : ℕ) → listed ends.new.entries x ≡ listed ends.old.entries x ++ (if nat_eq x b then end ∷ [] else []) }
+/// Takes back the end that was noted last for a block.
+pub(crate) fn forget(ends: &mut Ends, b: u32)
+    ensures { TakesBack b ends.old.entries ends.new.entries }
 {
-    match ends.get_mut(&b) {
-        Some(list) => list.push_reserved(end),
-        None => unreachable!(),
+    if let Some(list) = ends.get_mut(&b) {
+        // The end isn't needed.
+        let _end = list.pop();
     }
 }

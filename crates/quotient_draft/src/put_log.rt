@@ -46,12 +46,11 @@ impl PutLog {
         ensures err { OnErr result (self.new ≡ self.old) }
     {
         let place = self.puts.len();
-        let before = count_of(&self.last, b);
         self.puts.reserve(1)?;
         self.before.reserve(1)?;
-        self.last.insert(b, place + 1)?;
+        let before = self.last.insert(b, place + 1)?;
         self.puts.push_reserved((n, b));
-        self.before.push_reserved(before);
+        self.before.push_reserved(before.unwrap_or(0));
         Ok(())
     }
 

@@ -22,7 +22,8 @@ impl Draft {
         ensures over { OnOk result (IsOver base.now.blocks.block_of base.now.blocks.labels self.new) }
         ensures err { OnErr result (self.new ≡ self.old) }
     {
-        self.changed.set(a, b, n)?;
+        let is_drafted = self.changed.is_drafted(a, b);
+        self.changed.set(a, b, n, is_drafted)?;
         Ok(())
     }
 
