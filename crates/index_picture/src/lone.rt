@@ -71,11 +71,11 @@ fn summary_of<L: Ledger>(
     ensures supports { IfOk result (λ s. AreSupports graph.now.graph.edges blocks.block_of s.supports) }
 {
     let mut steps = Steps::<L>::new(blank);
-    Summary::of(alloc, blocks, &graph.view(&mut steps))
+    Summary::of_fixed(alloc, blocks, &graph.view(&mut steps))
 }
 
 /// The index graph in which each live node of a graph is a block of its own, so that its picture is that of the graph. It costs what
-/// `Summary::of` costs, and 8 bytes a node while it runs.
+/// `Summary::of_fixed` costs, and 8 bytes a node while it runs.
 pub fn lone_blocks(alloc: Global, graph: &Graph) -> Result<Summary, Memory>
     ensures lone { IfOk result (λ s. IsLone graph.now.graph s.blocks) }
     ensures supports { IfOk result (λ s. AreSupports graph.now.graph.edges s.blocks.block_of s.supports) }
