@@ -1,9 +1,9 @@
 -- Numbers of active nodes by what a round changed about their neighbours.
 use Rattle.std.proofs.Common.{◌≡◌, ◌≢◌, ℕ, zero, suc, ◌+◌, ◌<◌, ◌≤◌, ◌⊎◌, List, [], ◌∷◌, ◌++◌, length, Option, Some, None, IfSome, IsTrue, refl, sym, ◌∙◌, ap, subst, arith, inl, inr, true, Bool, true≢false, slice_get, get_or, take, filter_map}
-use Rattle.std.specs.Prelude.{◌||◌, nat_eq}
+use Rattle.std.specs.Prelude.{◌||◌, ◌&&◌, nat_eq}
 use Rattle.std.specs.List.{insert}
 use Rattle.std.specs.List.Sorted.{IsStrictlyIncreasing}
-use Rattle.std.proofs.lemmas.Bool.{cases_lt, or_cases, or_left, or_right}
+use Rattle.std.proofs.lemmas.Bool.{cases_lt, and_parts, and_from, or_cases, or_left, or_right}
 use Rattle.std.proofs.lemmas.Bool.Decides.{Decides-eqb}
 use Rattle.std.proofs.lemmas.List.{get_or_push, get_or_append_left, length-append}
 use Rattle.hash_index.specs.Items.{Items, no_items, with_item, hash_at, count_to, IsNewest}
@@ -15,20 +15,20 @@ use Rattle.bisim_spec.proofs.RisingLists.{images_set, rising_unique}
 use Rattle.bisim_spec.specs.declared.sides.Side.TheVariants.{Parents, Children}
 use Rattle.index_check.specs.NeighbourSides.{is_neighbour}
 use Rattle.index_check.specs.Active.{number_in, AreAlike, AreGrouped, AreMoves, StayTogether}
-use Rattle.index_check.specs.Changes.{AreBlocksOf, AreChanges, AreNear, AreOn, AreParted, AreSame, IsGained, IsLeft, IsLost, IsNumber, LosesSome, PutsNear, TakesNumber}
+use Rattle.index_check.specs.Changes.{AreBlocksOf, AreChanges, AreNear, AreOn, AreParted, AreSame, IsGained, IsLeft, IsLost, IsNear, IsNumber, LosesSome, PushesIfNear, PutsNear, TakesNumber, spread_of}
 use Rattle.index_check.specs.Listing.{IsOn}
 use Rattle.index_check.proofs.ListingLaws.{on_more, on_new, item_last}
 use Rattle.index_check.proofs.NumberedNodes.{interned_at, interned_stays}
 
 -- items on lists
 
-item_before : (xs : List ℕ) (n k m : ℕ) → k < length xs → slice_get (xs ++ n ∷ []) k ≡ Some m → slice_get xs k ≡ Some m
+item_before : {X : Type 0} (xs : List X) (n : X) (k : ℕ) (m : X) → k < length xs → slice_get (xs ++ n ∷ []) k ≡ Some m → slice_get xs k ≡ Some m
 item_before [] n k m h e = absurd (omega (arith, h))
 item_before (x ∷ xs) n zero m h e = e
 item_before (x ∷ xs) n (suc k) m h e = item_before xs n k m (let l : suc k < suc (length xs) = h in omega (arith, l)) e
 
 -- what is on a list was before, or is the new item
-on_only : (old : Items ℕ) (c n b m : ℕ) → length old.hashes ≡ length old.items → IsOn (with_item old c n) b m → IsOn old b m ⊎ ((b ≡ c) × (m ≡ n))
+on_only : {X : Type 0} (old : Items X) (c : ℕ) (n : X) (b : ℕ) (m : X) → length old.hashes ≡ length old.items → IsOn (with_item old c n) b m → IsOn old b m ⊎ ((b ≡ c) × (m ≡ n))
 on_only old c n b m even w = elim (cases_lt w.place (length old.hashes)) [
   | inl before ↦ inl (record {
     place = w.place;
@@ -45,50 +45,53 @@ on_only old c n b m even w = elim (cases_lt w.place (length old.hashes)) [
       inr (sym hash, (let same : n ≡ m = cc in sym same)))
 ]
 
-pub puts_start : (q : ℕ) (near : Items ℕ) → PutsNear (has []) q near near
+pub puts_start : (q : ℕ) (near : Items (ℕ × ℕ)) → PutsNear (has []) q near near
 puts_start q near = record { kept = λ n p w. w; put = λ n h. absurd (true≢false (sym h)); only = λ n p w. inl w }
 
-pub puts_more : (nodes : List ℕ) (i d q : ℕ) (old mid new : Items ℕ) → i < length nodes → length mid.hashes ≡ length mid.items → PutsNear (has (take i nodes)) q old mid
-    → new ≡ with_item mid (get_or nodes i d) q → PutsNear (has (take (i + 1) nodes)) q old new
-puts_more nodes i d q old mid new within even w is = record {
-  kept = λ n p on. subst (λ l. IsOn l n p) (sym is) (on_more mid n p (get_or nodes i d) q (w.kept n p on));
-  put = λ n h. elim (or_cases (has (take i nodes) n) (nat_eq n (get_or nodes i d)) (sym (has_more nodes i d n within) ∙ h)) [
-    | inl before ↦ subst (λ l. IsOn l n q) (sym is) (on_more mid n q (get_or nodes i d) q (w.put n before))
-    | inr same ↦
-        (let here : get_or nodes i d ≡ n = sym ((Decides-eqb n (get_or nodes i d)).0 same) in
-        subst (λ l. IsOn l n q) (sym is) (subst (λ k. IsOn (with_item mid (get_or nodes i d) q) k q) here (on_new mid (get_or nodes i d) q even)))
-  ];
-  only = λ n p on. elim (on_only mid (get_or nodes i d) q n p even (subst (λ l. IsOn l n p) is on)) [
-    | inl before ↦ elim (w.only n p before) [
-      | inl first ↦ inl first
-      | inr (of, e) ↦ inr (has_more nodes i d n within ∙ or_left (has (take i nodes) n) (nat_eq n (get_or nodes i d)) of, e)
-    ]
-    | inr (same, e) ↦ inr (has_more nodes i d n within ∙ or_right (has (take i nodes) n) (nat_eq n (get_or nodes i d)) ((Decides-eqb n (get_or nodes i d)).1 same), e)
-  ];
-}
+pub puts_more : (nodes : List ℕ) (i d q : ℕ) (old mid new : Items (ℕ × ℕ)) → i < length nodes → length mid.hashes ≡ length mid.items
+    → PutsNear (has (take i nodes)) q old mid → new ≡ with_item mid (spread_of (get_or nodes i d)) (get_or nodes i d, q)
+    → PutsNear (has (take (i + 1) nodes)) q old new
+puts_more nodes i d q old mid new within even w is =
+    let m = get_or nodes i d in
+    record {
+      kept = λ n p on. subst (λ l. IsNear l n p) (sym is) (on_more mid (spread_of n) (n, p) (spread_of m) (m, q) (w.kept n p on));
+      put = λ n h. elim (or_cases (has (take i nodes) n) (nat_eq n m) (sym (has_more nodes i d n within) ∙ h)) [
+        | inl before ↦ subst (λ l. IsNear l n q) (sym is) (on_more mid (spread_of n) (n, q) (spread_of m) (m, q) (w.put n before))
+        | inr same ↦
+            (let here : m ≡ n = sym ((Decides-eqb n m).0 same) in
+            subst (λ l. IsNear l n q) (sym is) (subst (λ k. IsNear (with_item mid (spread_of m) (m, q)) k q) here (on_new mid (spread_of m) (m, q) even)))
+      ];
+      only = λ n p on. elim (on_only mid (spread_of m) (m, q) (spread_of n) (n, p) even (subst (λ l. IsNear l n p) is on)) [
+        | inl before ↦ elim (w.only n p before) [
+          | inl first ↦ inl first
+          | inr (of, e) ↦ inr (has_more nodes i d n within ∙ or_left (has (take i nodes) n) (nat_eq n m) of, e)
+        ]
+        | inr (same, e) ↦ inr (has_more nodes i d n within ∙ or_right (has (take i nodes) n) (nat_eq n m) ((Decides-eqb n m).1 (ap (λ r. r.0) e)), ap (λ r. r.1) e)
+      ];
+    }
 
-pub puts_of : (of of2 : ℕ → Bool) (q : ℕ) (old new : Items ℕ) → ((n : ℕ) → of n ≡ of2 n) → PutsNear of q old new → PutsNear of2 q old new
+pub puts_of : (of of2 : ℕ → Bool) (q : ℕ) (old new : Items (ℕ × ℕ)) → ((n : ℕ) → of n ≡ of2 n) → PutsNear of q old new → PutsNear of2 q old new
 puts_of of of2 q old new same w = record {
   kept = w.kept;
   put = λ n h. w.put n (same n ∙ h);
   only = λ n p on. elim (w.only n p on) [ inl before ↦ inl before | inr (h, e) ↦ inr (sym (same n) ∙ h, e) ];
 }
 
-pub puts_none : (of : ℕ → Bool) (q : ℕ) (near : Items ℕ) → ((n : ℕ) → of n ≡ true → ⊥) → PutsNear of q near near
+pub puts_none : (of : ℕ → Bool) (q : ℕ) (near : Items (ℕ × ℕ)) → ((n : ℕ) → of n ≡ true → ⊥) → PutsNear of q near near
 puts_none of q near none = record { kept = λ n p w. w; put = λ n h. absurd (none n h); only = λ n p w. inl w }
 
 -- the moved ones of the neighbours
-pub record ListsNear (neighbour_of : ℕ → ℕ → Bool) (moved : List ℕ) (near : Items ℕ) : Type 0 where
-  pub each : (n p : ℕ) → IsOn near n p → (has moved p ≡ true) × IsTrue (neighbour_of p n)
-  pub every : (n p : ℕ) → has moved p ≡ true → IsTrue (neighbour_of p n) → IsOn near n p
+pub record ListsNear (neighbour_of : ℕ → ℕ → Bool) (moved : List ℕ) (near : Items (ℕ × ℕ)) : Type 0 where
+  pub each : (n p : ℕ) → IsNear near n p → (has moved p ≡ true) × IsTrue (neighbour_of p n)
+  pub every : (n p : ℕ) → has moved p ≡ true → IsTrue (neighbour_of p n) → IsNear near n p
 
-pub near_start : (neighbour_of : ℕ → ℕ → Bool) (near : Items ℕ) → near ≡ no_items → ListsNear neighbour_of [] near
+pub near_start : (neighbour_of : ℕ → ℕ → Bool) (near : Items (ℕ × ℕ)) → near ≡ no_items → ListsNear neighbour_of [] near
 near_start neighbour_of near none = record {
-  each = λ n p w. let v = subst (λ l. IsOn l n p) none w in let h = v.within in absurd (omega (arith, h));
+  each = λ n p w. let v = subst (λ l. IsNear l n p) none w in let h = v.within in absurd (omega (arith, h));
   every = λ n p h e. absurd (true≢false (sym h));
 }
 
-pub near_more : (neighbour_of : ℕ → ℕ → Bool) (moved : List ℕ) (i d : ℕ) (mid new : Items ℕ) → i < length moved → ListsNear neighbour_of (take i moved) mid
+pub near_more : (neighbour_of : ℕ → ℕ → Bool) (moved : List ℕ) (i d : ℕ) (mid new : Items (ℕ × ℕ)) → i < length moved → ListsNear neighbour_of (take i moved) mid
     → PutsNear (neighbour_of (get_or moved i d)) (get_or moved i d) mid new → ListsNear neighbour_of (take (i + 1) moved) new
 near_more neighbour_of moved i d mid new within w l = record {
   each = λ n p on. elim (l.only n p on) [
@@ -102,11 +105,11 @@ near_more neighbour_of moved i d mid new within w l = record {
     | inl before ↦ l.kept n p (w.every n p before e)
     | inr same ↦
         (let here : p ≡ get_or moved i d = (Decides-eqb p (get_or moved i d)).0 same in
-        subst (λ k. IsOn new n k) (sym here) (l.put n (subst (λ k. IsTrue (neighbour_of k n)) here e)))
+        subst (λ k. IsNear new n k) (sym here) (l.put n (subst (λ k. IsTrue (neighbour_of k n)) here e)))
   ];
 }
 
-pub near_all : (neighbour_of : ℕ → ℕ → Bool) (before now : List (Option ℕ)) (moved : List ℕ) (near : Items ℕ) → ListsNear neighbour_of moved near → AreMoves before now moved
+pub near_all : (neighbour_of : ℕ → ℕ → Bool) (before now : List (Option ℕ)) (moved : List ℕ) (near : Items (ℕ × ℕ)) → ListsNear neighbour_of moved near → AreMoves before now moved
     → AreNear neighbour_of before now near
 near_all neighbour_of before now moved near w m = record {
   each = λ n p on. let r = w.each n p on in (r.1, m.why p r.0);
@@ -114,13 +117,13 @@ near_all neighbour_of before now moved near w m = record {
 }
 
 -- on the way along the list of n: what was met is in
-pub record Reads (near : Items ℕ) (n : ℕ) (nodes : List ℕ) (next : Option ℕ) : Type 0 where
-  pub each : (p : ℕ) → has nodes p ≡ true → IsOn near n p
-  pub seen : (p : ℕ) (w : IsOn near n p) → (w.place < count_to next) ⊎ (has nodes p ≡ true)
+pub record Reads (near : Items (ℕ × ℕ)) (n : ℕ) (nodes : List ℕ) (next : Option ℕ) : Type 0 where
+  pub each : (p : ℕ) → has nodes p ≡ true → IsNear near n p
+  pub seen : (p : ℕ) (w : IsNear near n p) → (w.place < count_to next) ⊎ (has nodes p ≡ true)
   pub below : count_to next ≤ length near.hashes
-  pub hash : IfSome next (λ i. hash_at near.hashes i ≡ n)
+  pub hash : IfSome next (λ i. hash_at near.hashes i ≡ spread_of n)
 
-pub reads_start : (near : Items ℕ) (n : ℕ) (next : Option ℕ) → IsNewest near.hashes n (length near.hashes) next → Reads near n [] next
+pub reads_start : (near : Items (ℕ × ℕ)) (n : ℕ) (next : Option ℕ) → IsNewest near.hashes (spread_of n) (length near.hashes) next → Reads near n [] next
 reads_start near n next w = record {
   each = λ p h. absurd (true≢false (sym h));
   seen = λ p on. inl (w.covers on.place on.within on.hash);
@@ -128,36 +131,40 @@ reads_start near n next w = record {
   hash = w.has;
 }
 
-pub reads_more : (near : Items ℕ) (n i m : ℕ) (nodes more : List ℕ) (next : Option ℕ) → Reads near n nodes (Some i) → slice_get near.items i ≡ Some m → more ≡ nodes ++ m ∷ []
-    → IsNewest near.hashes (hash_at near.hashes i) i next → Reads near n more next
-reads_more near n i m nodes more next w item is l = record {
-  each = λ p h. elim (or_cases (has nodes p) (nat_eq p m) (sym (has_push nodes m p) ∙ ap (λ xs. has xs p) (sym is) ∙ h)) [
+pub reads_more : (near : Items (ℕ × ℕ)) (n i : ℕ) (item : ℕ × ℕ) (nodes more : List ℕ) (next : Option ℕ) → Reads near n nodes (Some i) → slice_get near.items i ≡ Some item
+    → PushesIfNear n item nodes more → IsNewest near.hashes (hash_at near.hashes i) i next → Reads near n more next
+reads_more near n i item nodes more next w there is l = record {
+  each = λ p h. elim (or_cases (has nodes p) (nat_eq item.0 n && nat_eq p item.1) (sym (is p) ∙ h)) [
     | inl before ↦ w.each p before
     | inr same ↦
-        (let here : m ≡ p = sym ((Decides-eqb p m).0 same) in
+        (let both = and_parts (nat_eq item.0 n) (nat_eq p item.1) same in
+        let first : item.0 ≡ n = (Decides-eqb item.0 n).0 both.0 in
+        let second : item.1 ≡ p = sym ((Decides-eqb p item.1).0 both.1) in
+        let here : item ≡ (n, p) = (λ k. (first k, second k)) in
         let within = w.below in
-        subst (IsOn near n) here (record { place = i; within = omega (arith, within); hash = w.hash; item = item }))
+        record { place = i; within = omega (arith, within); hash = w.hash; item = there ∙ ap (λ r. Some r) here })
   ];
   seen = λ p on. elim (w.seen p on) [
-    | inr met ↦ inr (ap (λ xs. has xs p) is ∙ has_push nodes m p ∙ or_left (has nodes p) (nat_eq p m) met)
+    | inr met ↦ inr (is p ∙ or_left (has nodes p) (nat_eq item.0 n && nat_eq p item.1) met)
     | inl ahead ↦ elim (cases_lt on.place i) [
       | inl less ↦ inl (l.covers on.place less (on.hash ∙ sym w.hash))
       | inr past ↦
           (let here : on.place ≡ i = omega (arith, ahead, past) in
-          let other : slice_get near.items i ≡ Some p = ap (slice_get near.items) (sym here) ∙ on.item in
-          let same : p ≡ m = (let x = item in let y = other in cc) in
-          inr (ap (λ xs. has xs p) is ∙ has_push nodes m p ∙ or_right (has nodes p) (nat_eq p m) ((Decides-eqb p m).1 same)))
+          let other : slice_get near.items i ≡ Some (n, p) = ap (slice_get near.items) (sym here) ∙ on.item in
+          let same : item ≡ (n, p) = (let x = there in let y = other in cc) in
+          let both = and_from (nat_eq item.0 n) (nat_eq p item.1) ((Decides-eqb item.0 n).1 (ap (λ r. r.0) same)) ((Decides-eqb p item.1).1 (ap (λ r. r.1) (sym same))) in
+          inr (is p ∙ or_right (has nodes p) (nat_eq item.0 n && nat_eq p item.1) both))
     ]
   ];
   below = (let x = l.below in let y = w.below in omega (arith, x, y));
   hash = hash_of next l.has;
 }
   where
-    hash_of : (o : Option ℕ) → IfSome o (λ j. hash_at near.hashes j ≡ hash_at near.hashes i) → IfSome o (λ j. hash_at near.hashes j ≡ n)
+    hash_of : (o : Option ℕ) → IfSome o (λ j. hash_at near.hashes j ≡ hash_at near.hashes i) → IfSome o (λ j. hash_at near.hashes j ≡ spread_of n)
     hash_of None h = tt
     hash_of (Some j) h = h ∙ w.hash
 
-pub reads_all : (near : Items ℕ) (n : ℕ) (nodes : List ℕ) → Reads near n nodes None → AreOn near n nodes
+pub reads_all : (near : Items (ℕ × ℕ)) (n : ℕ) (nodes : List ℕ) → Reads near n nodes None → AreOn near n nodes
 reads_all near n nodes w = record {
   each = w.each;
   every = λ p on. elim (w.seen p on) [ inl none ↦ absurd (omega (arith, none)) | inr met ↦ met ];
@@ -211,7 +218,7 @@ loses_push neighbour_of now n left old mid new i d within w gone is = record {
     added b h = ap (λ xs. has xs b) is ∙ has_push mid (get_or left i d) b ∙ h
 
 -- the changes about a node
-pub changes_of : (neighbour_of : ℕ → ℕ → Bool) (before now : List (Option ℕ)) (n : ℕ) (near : Items ℕ) (around gains left key set : List ℕ) → AreNear neighbour_of before now near
+pub changes_of : (neighbour_of : ℕ → ℕ → Bool) (before now : List (Option ℕ)) (n : ℕ) (near : Items (ℕ × ℕ)) (around gains left key set : List ℕ) → AreNear neighbour_of before now near
     → AreOn near n around → AreImages (at now) around gains → AreImages (at before) around left → LosesSome neighbour_of now n left gains key → IsStrictlyIncreasing set
     → ((b : ℕ) → has set b ≡ has key b) → AreChanges neighbour_of before now n set
 changes_of neighbour_of before now n near around gains left key set w on gain lose lost rising same = record {
@@ -232,7 +239,7 @@ changes_of neighbour_of before now n near around gains left key set w on gain lo
       same b ∙ lost.put b (lose.every l.neighbour b (on.every l.neighbour (w.every n l.neighbour l.is_one moves)) l.was_there) l.left;
 }
 
-pub changes_handed : (neighbour_of : ℕ → ℕ → Bool) (before before2 now now2 now3 : List (Option ℕ)) (n : ℕ) (near : Items ℕ) (around around2 around3 gains left left2 key set : List ℕ)
+pub changes_handed : (neighbour_of : ℕ → ℕ → Bool) (before before2 now now2 now3 : List (Option ℕ)) (n : ℕ) (near : Items (ℕ × ℕ)) (around around2 around3 gains left left2 key set : List ℕ)
     → AreNear neighbour_of before now near → AreOn near n around → around2 ≡ around → now2 ≡ now → AreImages (at now2) around2 gains → around3 ≡ around → before2 ≡ before
     → AreImages (at before2) around3 left → now3 ≡ now → left2 ≡ left → LosesSome neighbour_of now3 n left2 gains key → IsStrictlyIncreasing set
     → ((b : ℕ) → has set b ≡ has key b) → AreChanges neighbour_of before now n set

@@ -12,17 +12,17 @@ use Rattle.index_check.specs.Active.{IsClosed, IsCoarse, AreMoves}
 use Rattle.index_check.specs.Listing.{IsOn, IsListed, ListsNode, ListsMoved, AddsNode, IsWidened}
 use Rattle.index_check.proofs.MoveLaws.{others_stay}
 
-item_append : (xs ys : List ℕ) (k x : ℕ) → slice_get xs k ≡ Some x → slice_get (xs ++ ys) k ≡ Some x
+item_append : {X : Type 0} (xs ys : List X) (k : ℕ) (x : X) → slice_get xs k ≡ Some x → slice_get (xs ++ ys) k ≡ Some x
 item_append [] ys k x e = absurd (cc)
 item_append (z ∷ xs) ys zero x e = e
 item_append (z ∷ xs) ys (suc k) x e = item_append xs ys k x e
 
-pub item_last : (xs : List ℕ) (x : ℕ) → slice_get (xs ++ x ∷ []) (length xs) ≡ Some x
+pub item_last : {X : Type 0} (xs : List X) (x : X) → slice_get (xs ++ x ∷ []) (length xs) ≡ Some x
 item_last [] x = refl
 item_last (z ∷ xs) x = item_last xs x
 
 -- one more node on a list
-pub on_more : (old : Items ℕ) (b m c n : ℕ) → IsOn old b m → IsOn (with_item old c n) b m
+pub on_more : {X : Type 0} (old : Items X) (b : ℕ) (m : X) (c : ℕ) (n : X) → IsOn old b m → IsOn (with_item old c n) b m
 on_more old b m c n w =
     let within = w.within in
     let long = length-append old.hashes (c ∷ []) in
@@ -33,7 +33,7 @@ on_more old b m c n w =
       item = item_append old.items (n ∷ []) w.place m w.item;
     }
 
-pub on_new : (old : Items ℕ) (c n : ℕ) → length old.hashes ≡ length old.items → IsOn (with_item old c n) c n
+pub on_new : {X : Type 0} (old : Items X) (c : ℕ) (n : X) → length old.hashes ≡ length old.items → IsOn (with_item old c n) c n
 on_new old c n even =
     let long = length-append old.hashes (c ∷ []) in
     record {

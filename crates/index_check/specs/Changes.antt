@@ -1,5 +1,5 @@
 -- What a round changed about the neighbours of nodes: the blocks to which they came, and those which all of them left.
-use Rattle.std.specs.Prelude.{ℕ, ◌≡◌, ◌≢◌, ◌<◌, ◌⊎◌, Bool, true, List, ◌∷◌, length, Option, Some, IsTrue, slice_get}
+use Rattle.std.specs.Prelude.{ℕ, ◌≡◌, ◌≢◌, ◌<◌, ◌*◌, ◌/◌, ◌%◌, ◌^◌, ◌⊎◌, ◌||◌, ◌&&◌, nat_eq, Bool, true, List, ◌∷◌, length, Option, Some, IsTrue, slice_get}
 use Rattle.std.specs.List.Sorted.{IsStrictlyIncreasing}
 use Rattle.graph_spec.specs.Members.{at, has}
 use Rattle.bisim_spec.specs.Bisimilarity.{Matched}
@@ -8,21 +8,34 @@ use Rattle.hash_index.specs.Items.{Items}
 use Rattle.index_check.specs.Active.{StayTogether, number_in}
 use Rattle.index_check.specs.Listing.{IsOn}
 
+-- Bits from the middle of a product: numbers that stand a power of two apart differ in the lower ones, by which an index finds its items. That it
+-- is a function of the number is all that lists need of it.
+unfoldable pub spread_of : ℕ → ℕ
+spread_of n = (n * 0x2545F4914F6CDD1D) % 2 ^ 64 / 2 ^ 32
+
+-- p is on the list of n
+abbrev pub IsNear : Items (ℕ × ℕ) → ℕ → ℕ → Type 0
+IsNear near n p = IsOn near (spread_of n) (n, p)
+
 -- q is on the lists of these, and the lists have nothing else that is new
-pub record PutsNear (of : ℕ → Bool) (q : ℕ) (old new : Items ℕ) : Type 0 where
-  pub kept : (n p : ℕ) → IsOn old n p → IsOn new n p
-  pub put : (n : ℕ) → of n ≡ true → IsOn new n q
-  pub only : (n p : ℕ) → IsOn new n p → IsOn old n p ⊎ ((of n ≡ true) × (p ≡ q))
+pub record PutsNear (of : ℕ → Bool) (q : ℕ) (old new : Items (ℕ × ℕ)) : Type 0 where
+  pub kept : (n p : ℕ) → IsNear old n p → IsNear new n p
+  pub put : (n : ℕ) → of n ≡ true → IsNear new n q
+  pub only : (n p : ℕ) → IsNear new n p → IsNear old n p ⊎ ((of n ≡ true) × (p ≡ q))
 
 -- on the list of each number there are those of its neighbours that moved
-pub record AreNear (neighbour_of : ℕ → ℕ → Bool) (before now : List (Option ℕ)) (near : Items ℕ) : Type 0 where
-  pub each : (n p : ℕ) → IsOn near n p → IsTrue (neighbour_of p n) × (at now p ≢ at before p)
-  pub every : (n p : ℕ) → IsTrue (neighbour_of p n) → at now p ≢ at before p → IsOn near n p
+pub record AreNear (neighbour_of : ℕ → ℕ → Bool) (before now : List (Option ℕ)) (near : Items (ℕ × ℕ)) : Type 0 where
+  pub each : (n p : ℕ) → IsNear near n p → IsTrue (neighbour_of p n) × (at now p ≢ at before p)
+  pub every : (n p : ℕ) → IsTrue (neighbour_of p n) → at now p ≢ at before p → IsNear near n p
 
 -- these are on the list of n
-pub record AreOn (near : Items ℕ) (n : ℕ) (nodes : List ℕ) : Type 0 where
-  pub each : (p : ℕ) → has nodes p ≡ true → IsOn near n p
-  pub every : (p : ℕ) → IsOn near n p → has nodes p ≡ true
+pub record AreOn (near : Items (ℕ × ℕ)) (n : ℕ) (nodes : List ℕ) : Type 0 where
+  pub each : (p : ℕ) → has nodes p ≡ true → IsNear near n p
+  pub every : (p : ℕ) → IsNear near n p → has nodes p ≡ true
+
+-- what stands beside n is put behind the others, if the item is one of n
+abbrev pub PushesIfNear : ℕ → ℕ × ℕ → List ℕ → List ℕ → Type 0
+PushesIfNear n item old new = (p : ℕ) → has new p ≡ (has old p || (nat_eq item.0 n && nat_eq p item.1))
 
 -- a neighbour came to the block
 pub record IsGained (neighbour_of : ℕ → ℕ → Bool) (before now : List (Option ℕ)) (n b : ℕ) : Type 0 where

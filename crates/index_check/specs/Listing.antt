@@ -3,8 +3,8 @@ use Rattle.std.specs.Prelude.{ℕ, ◌≡◌, ◌<◌, ◌⊎◌, true, List, le
 use Rattle.hash_index.specs.Items.{Items, hash_at}
 use Rattle.graph_spec.specs.Members.{at, has}
 
--- the node is on the list of block b
-pub record IsOn (lists : Items ℕ) (b n : ℕ) : Type 0 where
+-- the item is on the list of number b
+pub record IsOn {X : Type 0} (lists : Items X) (b : ℕ) (n : X) : Type 0 where
   pub place : ℕ
   pub within : place < length lists.hashes
   pub hash : hash_at lists.hashes place ≡ b

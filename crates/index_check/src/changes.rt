@@ -4,7 +4,7 @@ ghost use Rattle.graph_spec.specs.Members.{at, has};
 ghost use Rattle.key_table.specs.NumberedKeys.{AreDistinct};
 ghost use Rattle.index_check.specs.NeighbourSides.{is_neighbour};
 ghost use Rattle.index_check.specs.Active.{AreAlike, AreGrouped, AreMoves};
-ghost use Rattle.index_check.specs.Changes.{AreBlocksOf, AreChanges, AreNear, AreOn, AreParted, LosesSome, PutsNear, TakesNumber};
+ghost use Rattle.index_check.specs.Changes.{AreBlocksOf, AreChanges, AreNear, AreOn, AreParted, LosesSome, PushesIfNear, PutsNear, TakesNumber, spread_of};
 ghost use Rattle.index_check.specs.Watches.{IsWatched};
 
 use crate::keys::{block_of, write_set};
@@ -22,8 +22,8 @@ use std::alloc::Global;
 #[derive(Drop)]
 pub(crate) struct Keys {
     pub(crate) watches: Watches,
-    // by the number of a node: its neighbours on one side that moved
-    near: HashIndex<u32>,
+    // nodes, each with a neighbour on one side that moved
+    near: HashIndex<(u32, u32)>,
     table: KeyTable,
     around: Vec<u32>,
     key: Vec<u32>,
@@ -59,21 +59,28 @@ fn across(side: Side) -> Side
     }
 }
 
+// The number by which the list of a node is found.
+fn spread(n: u32) -> u32
+    ensures { result ≡ spread_of n }
+{
+    ((n as u64).wrapping_mul(0x2545_F491_4F6C_DD1D) >> 32) as u32
+}
+
 // Puts a node on the lists of the others.
-fn put_near(near: &mut HashIndex<u32>, nodes: &[u32], q: u32) -> Result<(), Memory>
+fn put_near(near: &mut HashIndex<(u32, u32)>, nodes: &[u32], q: u32) -> Result<(), Memory>
     ensures { OnOk result (PutsNear (has nodes.now) q near.old near.new) }
 {
     for n in nodes {
-        // Called for its contract: each node on a list has the number of that.
+        // Called for its contract: each item has a number by which it is found.
         let _known = near.len();
-        near.push(*n, q)?;
+        near.push(spread(*n), (*n, q))?;
     }
     Ok(())
 }
 
 // Puts a node on the lists of those whose neighbour it is on this side.
 fn put_beside<G: Digraph>(
-    near: &mut HashIndex<u32>,
+    near: &mut HashIndex<(u32, u32)>,
     g: &G,
     side: Side,
     q: u32,
@@ -89,7 +96,7 @@ fn put_beside<G: Digraph>(
 
 // Makes for each node a list of those of its neighbours on one side that moved.
 fn find_near<G: Digraph>(
-    near: &mut HashIndex<u32>,
+    near: &mut HashIndex<(u32, u32)>,
     g: &G,
     side: Side,
     moved: &[u32],
@@ -103,16 +110,26 @@ fn find_near<G: Digraph>(
     Ok(())
 }
 
+// Puts what stands beside the node behind the others, if the item is on the list of that node.
+fn push_if_near(around: &mut Vec<u32>, n: u32, item: (u32, u32)) -> Result<(), Memory>
+    ensures { OnOk result (PushesIfNear n item around.old.items around.new.items) }
+{
+    if item.0 == n {
+        around.push(item.1)?;
+    }
+    Ok(())
+}
+
 // Reads the list of a node.
-fn read_near(around: &mut Vec<u32>, near: &HashIndex<u32>, n: u32) -> Result<(), Memory>
+fn read_near(around: &mut Vec<u32>, near: &HashIndex<(u32, u32)>, n: u32) -> Result<(), Memory>
     ensures { OnOk result (AreOn near.now n around.new.items) }
 {
-    // Called for its contract: each node on a list has the number of that.
+    // Called for its contract: each item has a number by which it is found.
     let _known = near.len();
     around.clear();
-    let mut next = near.newest(n);
+    let mut next = near.newest(spread(n));
     'walk: while let Some(i) = next {
-        around.push(near.item(i))?;
+        push_if_near(around, n, near.item(i))?;
         next = near.older(i);
     }
     Ok(())

@@ -65,9 +65,11 @@ fn block_list(alloc: Global, saved: &Saved, j: u32) -> Result<Vec<Option<u32>>, 
 
 /// Whether a view of the file is a partition of its index, of the graph in the file: for an A(i)-index the classes of nodes that are
 /// bisimilar to level i, for the 1-index one that is stable and in which no two blocks can be merged, for the forward and backward
-/// index the classes of full bisimilarity by parents and children, and for a bounded one those to its level. It takes 8 bytes a
-/// number, and costs what `fits_level`, `is_stable` and `is_minimal`, `fits_both` or `fits_level_both` cost. Keys are found by hashes that
-/// have no secret, so a file that is crafted to have many keys of one hash can make it quadratic.
+/// index the classes of full bisimilarity by parents and children, and for a bounded one those to its level.
+///
+/// Expected O(n + m log m) for n node numbers and m edges, for a level i + 1 times that, and O(n + m log² m) for the forward and backward
+/// index. It takes 8 bytes a number, and what `fits_level`, `is_stable` and `is_minimal`, `fits_both` or `fits_level_both` take. Keys are
+/// found by hashes that have no secret, so a file that is crafted to have many keys of one hash can make it quadratic.
 pub fn fits(alloc: Global, saved: &Saved, j: u32) -> Result<bool, Memory>
     requires { j < length saved.now.views }
     ensures { IfOk result (λ yes. IsTrue yes ↔ FitsView saved.now j) }
