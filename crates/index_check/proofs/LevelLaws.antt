@@ -1,27 +1,21 @@
--- Lists that are refined are levels of bisimilarity.
+-- Which lists are levels of bisimilarity, or full bisimilarity.
 use Rattle.bisim_spec.proofs.BelowLaws.{count_few}
-use Rattle.std.proofs.Common.{◌≡◌, ℕ, suc, ◌<◌, ◌≤◌, IsTrue, is_some, List, [], ◌∷◌, Option, Some, None, IsSome, Bool, refl, sym, ◌∙◌, ap, subst, true≢false}
-use Rattle.std.specs.Prelude.{option_map}
+use Rattle.std.proofs.Common.{◌≡◌, ℕ, suc, ◌≤◌, is_some, List, Option, Bool, sym, ◌∙◌, subst}
 use Rattle.graph_spec.specs.Shapes.{Shape, IsShape}
 use Rattle.graph_spec.specs.Members.{at}
-use Rattle.bisim_spec.specs.Bisimilarity.{SameLabel, Bis, Both, FB, node_count}
+use Rattle.bisim_spec.specs.Bisimilarity.{Bis, Both, FB, node_count}
 use Rattle.bisim_spec.specs.Partitions.{IsPartition, Agrees}
 use Rattle.bisim_spec.proofs.Bisimilar.{some_of, is_some_at, both_node, both_sym}
-use Rattle.bisim_spec.proofs.Keys.{bis_from_key, key_from_bis, both_from_key, key_from_both}
+use Rattle.bisim_spec.proofs.Keys.{bis_from_key, key_from_bis}
 use Rattle.bisim_spec.proofs.Settled.{falls_to, both_family, fb_each, fb_settled}
-use Rattle.bisim_spec.proofs.Stable.{next_stable_both, stable_both_full}
-use Rattle.bisim_spec.specs.declared.sides.Side.TheVariants.{Parents, Children}
-use Rattle.index_check.specs.NeighbourSides.{is_neighbour}
-use Rattle.index_check.specs.NumberedShapes.{shape_by_number}
+use Rattle.bisim_spec.proofs.Stable.{stable_both_within, next_stable_both, stable_both_full}
+use Rattle.bisim_spec.specs.declared.sides.Side.TheVariants.{Parents}
+use Rattle.bisim_spec.specs.Stability.{StableBoth}
+use Rattle.round_refinement.specs.Active.{IsCoarse}
+use Rattle.round_refinement.specs.NeighbourSides.{is_neighbour}
 use Rattle.bisim_spec.specs.Refinement.{Refines}
 use Rattle.index_check.specs.ComparedLists.{Determines, AreSame}
-
--- what is refined covers the same nodes
-pub refined_partition : (s : Shape) (own base next : List (Option ℕ)) (neighbour_of : ℕ → ℕ → Bool) → IsPartition s own → Refines (at own) base neighbour_of next → IsPartition s next
-refined_partition s own base next neighbour_of p r = record {
-  live = λ n h. r.kept n (p.live n h);
-  only = λ n h. p.only n (r.only n h);
-}
+use Rattle.round_refinement.proofs.LevelLaws.{refined_partition}
 
 pub bis_up : (s : Shape) (block next : List (Option ℕ)) → Refines (at block) block (is_neighbour Parents s.edge) next
     → (i : ℕ) → Agrees s block (Bis s i) → Agrees s next (Bis s (suc i))
@@ -33,60 +27,6 @@ bis_up s block next r i a = record {
   grouped = λ u v nu nv h.
       let k = key_from_bis s block i u v a nu nv h in
       r.grouped u v (record { one_number = k.own; neighbours = k.parents });
-}
-
-pub both_up : (s : Shape) (block mid next : List (Option ℕ)) → Refines (at block) block (is_neighbour Parents s.edge) mid → Refines (at mid) block (is_neighbour Children s.edge) next
-    → (i : ℕ) → Agrees s block (Both s i) → Agrees s next (Both s (suc i))
-both_up s block mid next r q i a = record {
-  partition =
-      refined_partition s mid block next (is_neighbour Children s.edge)
-      (refined_partition s block block mid (is_neighbour Parents s.edge) a.partition r) q;
-  related = λ u v t.
-      let k = q.parted u v t in
-      let j = r.parted u v k.one_number in
-      both_from_key s block i u v a (record { own = j.one_number; parents = j.neighbours; children = k.neighbours });
-  grouped = λ u v nu nv h.
-      let k = key_from_both s block i u v a nu nv h in
-      q.grouped u v (record { one_number = r.grouped u v (record { one_number = k.own; neighbours = k.parents }); neighbours = k.children });
-}
-
--- the label of a node as a text
-text_of : (o : Option ℕ) → IsSome o → (x : ℕ) × (o ≡ Some x) × (option_map (λ l. l ∷ []) o ≡ Some (x ∷ []))
-text_of None h = absurd (true≢false (sym h))
-text_of (Some x) h = (x, refl, refl)
-
-pub node_of : (o : Option ℕ) → IsSome (option_map (λ l. l ∷ []) o) → IsSome o
-node_of None h = absurd (true≢false (sym h))
-node_of (Some x) h = refl
-
-pub of_node : (o : Option ℕ) → IsSome o → IsSome (option_map (λ l. l ∷ []) o)
-of_node None h = absurd (true≢false (sym h))
-of_node (Some x) h = refl
-
-one_text : (o : Option ℕ) (t : List ℕ) (x : ℕ) → option_map (λ l. l ∷ []) o ≡ Some t → o ≡ Some x → t ≡ x ∷ []
-one_text o t x e f = (let z = ap (option_map (λ l. l ∷ [])) f in cc)
-
-heads : (x y : ℕ) → x ∷ [] ≡ y ∷ [] → x ≡ y
-heads x y e = cc
-
--- nodes of one label
-pub labels_agree : (size : ℕ) (label : ℕ → Option ℕ) (edge : ℕ → ℕ → Bool) (l : List (Option ℕ)) → ((n : ℕ) → at l n ≡ label n)
-    → Agrees (shape_by_number size label edge) l (SameLabel (shape_by_number size label edge))
-labels_agree size label edge l is = record {
-  partition = record {
-    live = λ n h. subst IsSome (sym (is n)) (node_of (label n) h);
-    only = λ n h. of_node (label n) (subst IsSome (is n) h);
-  };
-  related = λ u v t. (
-    t.0 ∷ [],
-    ap (option_map (λ x. x ∷ [])) (sym (is u) ∙ t.1),
-    ap (option_map (λ x. x ∷ [])) (sym (is v) ∙ t.2),
-  );
-  grouped = λ u v nu nv h.
-      let a = text_of (label u) (node_of (label u) nu) in
-      let b = text_of (label v) (node_of (label v) nv) in
-      let one : a.0 ≡ b.0 = heads a.0 b.0 (let x = h.1 in let y = h.2 in let z = a.2 in let w = b.2 in cc) in
-      (a.0, is u ∙ a.1, is v ∙ b.1 ∙ ap Some (sym one));
 }
 
 -- a partition is right where it is parted as one that is
@@ -161,35 +101,30 @@ level_same s block j i e a = subst (λ k. Agrees s block (Bis s k)) e a
 pub both_same : (s : Shape) (block : List (Option ℕ)) (j i : ℕ) → j ≡ i → Agrees s block (Both s j) → Agrees s block (Both s i)
 both_same s block j i e a = subst (λ k. Agrees s block (Both s k)) e a
 
-pub both_more : (s : Shape) (block : List (Option ℕ)) (j i : ℕ) → suc j ≡ i → Agrees s block (Both s (suc j)) → Agrees s block (Both s i)
-both_more s block j i e a = subst (λ k. Agrees s block (Both s k)) e a
-
--- of equal lists
-pub agree_as : (s : Shape) (x y : List (Option ℕ)) (R : ℕ → ℕ → Type 0) → y ≡ x → Agrees s x R → Agrees s y R
-agree_as s x y R e a = subst (λ b. Agrees s b R) (sym e) a
-
-pub partition_as : (s : Shape) (x y : List (Option ℕ)) → y ≡ x → IsPartition s x → IsPartition s y
-partition_as s x y e a = subst (λ b. IsPartition s b) (sym e) a
-
 pub determines_as : (x y a b : List (Option ℕ)) → x ≡ a → y ≡ b → Determines x y → Determines a b
 determines_as x y a b e f d = subst (λ k. Determines a k) f (subst (λ k. Determines k y) e d)
-
-pub refines_as : (own : ℕ → Option ℕ) (x y next : List (Option ℕ)) (neighbour_of : ℕ → ℕ → Bool) → x ≡ y → Refines own x neighbour_of next → Refines own y neighbour_of next
-refines_as own x y next neighbour_of e r = subst (λ k. Refines own k neighbour_of next) e r
-
-pub refines_next : (own : ℕ → Option ℕ) (base x y : List (Option ℕ)) (neighbour_of : ℕ → ℕ → Bool) → y ≡ x → Refines own base neighbour_of x → Refines own base neighbour_of y
-refines_next own base x y neighbour_of e r = subst (λ k. Refines own base neighbour_of k) (sym e) r
-
-pub is_shape_by_number : (size : ℕ) (label : ℕ → Option ℕ) (edge : ℕ → ℕ → Bool) → ((n : ℕ) → IsSome (label n) → n < size)
-    → ((u v : ℕ) → IsTrue (edge u v) → IsSome (label u) × IsSome (label v)) → IsShape (shape_by_number size label edge)
-is_shape_by_number size label edge below ends = record {
-  below = λ n h. below n (node_of (label n) h);
-  from = λ u v e. of_node (label u) (ends u v e).0;
-  onto = λ u v e. of_node (label v) (ends u v e).1;
-}
 
 pub few_nodes : (s : Shape) → node_count s ≤ s.size
 few_nodes s = count_few s.size (λ n. is_some (s.label n))
 
 pub refines_own : (x y base next : List (Option ℕ)) (neighbour_of : ℕ → ℕ → Bool) → x ≡ y → Refines (at x) base neighbour_of next → Refines (at y) base neighbour_of next
 refines_own x y base next neighbour_of e r = subst (λ k. Refines (at k) base neighbour_of next) e r
+
+-- stable blocks that are determined by a partition that is no finer than full bisimilarity are that
+pub found_full : (s : Shape) (block coarse : List (Option ℕ)) → StableBoth s block → IsCoarse s coarse → Determines coarse block → Agrees s block (FB s)
+found_full s block coarse st c d = record {
+  partition = st.stable.partition;
+  related = stable_both_within s block st (node_count s);
+  grouped = λ u v nu nv r.
+      let t = c.together u v r in
+      let b = some_of (at block u) (st.stable.partition.live u nu) in
+      (b.0, b.1, sym (d u v t.0 t.1 t.2) ∙ b.1);
+}
+
+-- and full bisimilarity is determined by it, where it is stable
+pub full_found : (s : Shape) (block coarse : List (Option ℕ)) → StableBoth s coarse → IsCoarse s coarse → Agrees s block (FB s) → Determines coarse block
+full_found s block coarse st c a = λ u v b e f.
+    let nu = c.partition.only u (is_some_at (at coarse u) b e) in
+    let nv = c.partition.only v (is_some_at (at coarse v) b f) in
+    let t = a.grouped u v nu nv (stable_both_within s coarse st (node_count s) u v (b, e, f)) in
+    t.1 ∙ sym t.2

@@ -1,15 +1,8 @@
-pub mod NumberedNodes
-pub mod NeighbourBlocks
 pub mod OuterKeys
 pub mod ComparedLaws
-pub mod ListingLaws
-pub mod WatchLaws
 pub mod LevelLaws
 pub mod Stable
 pub mod ClosedKeys
 pub mod MinimalLaws
 pub mod Renamed
 pub mod ViaLaws
-pub mod MoveLaws
-pub mod ChangeLaws
-pub mod ActiveLaws

@@ -16,7 +16,7 @@ use Rattle.bisim_spec.proofs.MergeableBlocks.{Merges, mergeable_from, merges_fro
 use Rattle.bisim_spec.proofs.Stable.{stable_label}
 use Rattle.bisim_spec.proofs.StabilityTests.{together_decides}
 use Rattle.bisim_spec.proofs.Together.{together_sym, together_at, together_or_not, merged_keeps, merged_a, merged_b, merged_cases}
-use Rattle.index_check.specs.NumberedShapes.{shape_by_number}
+use Rattle.round_refinement.specs.NumberedShapes.{shape_by_number}
 use Rattle.bisim_spec.specs.Refinement.{Refines}
 use Rattle.index_check.specs.ComparedLists.{Determines}
 use Rattle.index_check.specs.OuterParents.{is_outer_parent, AreInnerLabels, MatchesOuter, TellsByOuter}

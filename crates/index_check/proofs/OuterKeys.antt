@@ -10,11 +10,11 @@ use Rattle.bisim_spec.specs.NodeKeys.{IsKey, IsWritten}
 use Rattle.bisim_spec.specs.declared.sides.Side.TheVariants.{Parents}
 use Rattle.key_table.specs.NumberedKeys.{AreDistinct}
 use Rattle.index_check.specs.ComparedLists.{Determines}
-use Rattle.index_check.specs.NeighbourSides.{is_neighbour}
+use Rattle.round_refinement.specs.NeighbourSides.{is_neighbour}
 use Rattle.bisim_spec.specs.Refinement.{StayTogether}
-use Rattle.index_check.specs.Numbering.{AreNumbered}
+use Rattle.round_refinement.specs.Numbering.{AreNumbered}
 use Rattle.index_check.specs.OuterParents.{is_outer_parent, AreInnerLabels, HasWholeKey, IsInnerLabel, TellsByOuter, outer_block_at, outer_block}
-use Rattle.index_check.proofs.NumberedNodes.{key_of_block, numbered_refines}
+use Rattle.round_refinement.proofs.NumberedNodes.{key_of_block, numbered_refines}
 use Rattle.bisim_spec.proofs.WrittenKeys.{key_of, key_from_together, parts_same}
 
 other_get : (own o : Option ℕ) (b : ℕ) → outer_block own o ≡ Some b → (o ≡ Some b) × (is_this b own ≡ false)

@@ -8,8 +8,8 @@ use Rattle.bisim_spec.specs.Stability.{Stable, StableBoth}
 use Rattle.bisim_spec.proofs.Bisimilar.{some_of, is_some_at}
 use Rattle.bisim_spec.proofs.Stable.{stable_label, stable_parents}
 use Rattle.bisim_spec.specs.declared.sides.Side.TheVariants.{Parents, Children}
-use Rattle.index_check.specs.NeighbourSides.{is_neighbour}
-use Rattle.index_check.specs.NumberedShapes.{shape_by_number}
+use Rattle.round_refinement.specs.NeighbourSides.{is_neighbour}
+use Rattle.round_refinement.specs.NumberedShapes.{shape_by_number}
 use Rattle.bisim_spec.specs.Refinement.{Refines}
 use Rattle.index_check.specs.ComparedLists.{Determines}
 

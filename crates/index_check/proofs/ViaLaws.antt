@@ -13,7 +13,7 @@ use Rattle.index_api.specs.declared.kinds.Via.TheVariants.{Data, A, One, Fb, B}
 use Rattle.index_file.specs.SavedFiles.{SavedFile, SavedView}
 use Rattle.index_file.specs.SavedGraphs.{index_of, blocks_of, via_at, blocks_at}
 use Rattle.index_file.specs.FittingViews.{FitsVia, FitsSaved, FitsView}
-use Rattle.index_check.specs.NumberedShapes.{shape_by_number}
+use Rattle.round_refinement.specs.NumberedShapes.{shape_by_number}
 use Rattle.index_check.proofs.Renamed.{with_labels, Renames, partition_renamed, level_renamed, both_level_renamed, full_renamed, stable_renamed, minimal_renamed}
 
 via_renamed : (size : ℕ) (edge : ℕ → ℕ → Bool) (f g : ℕ → Option (List ℕ)) → Renames size edge f g → Renames size edge g f → (via : Via) (block : List (Option ℕ))

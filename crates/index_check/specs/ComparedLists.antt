@@ -11,10 +11,6 @@ pub record AreSame (keys values : List (Option ℕ)) : Type 0 where
   pub there : Determines keys values
   pub back : Determines values keys
 
--- each value is below the span
-abbrev pub AreBelow : List (Option ℕ) → ℕ → Type 0
-AreBelow keys span = (n b : ℕ) → at keys n ≡ Some b → b < span
-
 -- For the numbers below n: each value leads to some number that has it, and that number has the same value in the second list.
 pub record AreCompared (keys values : List (Option ℕ)) (n : ℕ) (first : List (Option ℕ)) : Type 0 where
   pub found : (m b : ℕ) → m < n → at keys m ≡ Some b → (f : ℕ) × (at first b ≡ Some f)

@@ -5,7 +5,7 @@ use Rattle.bisim_spec.specs.Partitions.{Together}
 use Rattle.bisim_spec.specs.Tests.{together}
 use Rattle.bisim_spec.specs.declared.sides.Side.TheVariants.{Parents}
 use Rattle.bisim_spec.specs.NodeKeys.{IsKey}
-use Rattle.index_check.specs.NeighbourSides.{is_neighbour}
+use Rattle.round_refinement.specs.NeighbourSides.{is_neighbour}
 use Rattle.bisim_spec.specs.Refinement.{Share, StayTogether}
 
 -- p is a parent of n in another block

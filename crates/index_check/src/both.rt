@@ -2,14 +2,14 @@
 ghost use Rattle.std.specs.Prelude.{◌↔◌, IfOk, IsTrue};
 ghost use Rattle.bisim_spec.specs.Bisimilarity.{Both, FB};
 ghost use Rattle.bisim_spec.specs.Partitions.{IsPartition, Agrees};
-ghost use Rattle.index_check.specs.NumberedShapes.{digraph_shape};
+ghost use Rattle.round_refinement.specs.NumberedShapes.{digraph_shape};
 
-use crate::active::part_active;
 use crate::comparing::{are_same, determines};
-use crate::levels::{label_list, level_both, next_both};
+use crate::levels::level_both;
 use crate::stability::is_stable_both;
 use label_graph::Digraph;
 use px_base::Memory;
+use round_refinement::{label_list, next_both, part_active};
 use std::alloc::Global;
 
 /// Whether the blocks are the classes of nodes that are bisimilar to level `i` by parents and children, as in a bounded forward and

@@ -3,13 +3,13 @@ ghost use Rattle.std.specs.Prelude.{◌≡◌, ◌||◌, [], ℕ, IsSome, IfOk, 
 ghost use Rattle.graph_spec.specs.Members.{at, has};
 ghost use Rattle.key_table.specs.NumberedKeys.{AreDistinct};
 ghost use Rattle.bisim_spec.specs.Refinement.{Refines};
-ghost use Rattle.index_check.specs.Numbering.{Numbers};
+ghost use Rattle.round_refinement.specs.Numbering.{Numbers};
 ghost use Rattle.index_check.specs.ClosedParents.{is_closed_parent};
 
-use crate::keys::{block_of, find_key};
 use key_table::KeyTable;
 use label_graph::Digraph;
 use px_base::Memory;
+use round_refinement::{block_of, find_key};
 use std::alloc::Global;
 
 // Memory that is used again: for a key, and for the nodes whose blocks it has.

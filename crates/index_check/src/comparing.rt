@@ -1,9 +1,11 @@
 // Partitions that are compared.
-ghost use Rattle.std.specs.Prelude.{◌≡◌, ◌<◌, ◌≤◌, ◌↔◌, ◌&&◌, ℕ, Some, length, IfOk, IsTrue};
+ghost use Rattle.std.specs.Prelude.{◌≡◌, ◌<◌, ◌↔◌, ◌&&◌, ℕ, Some, length, IfOk, IsTrue};
 ghost use Rattle.graph_spec.specs.Members.{at};
-ghost use Rattle.index_check.specs.ComparedLists.{Determines, AreSame, AreBelow};
+ghost use Rattle.index_check.specs.ComparedLists.{Determines, AreSame};
+ghost use Rattle.round_refinement.specs.Numbering.{AreBelow};
 
 use px_base::Memory;
+use round_refinement::span_of;
 use std::alloc::Global;
 
 // The value of a number, and `None` past the end of the list.
@@ -11,21 +13,6 @@ fn value_at(values: &[Option<u32>], n: usize) -> Option<u32>
     ensures { result ≡ at values.now n }
 {
     if n < values.len() { values[n] } else { None }
-}
-
-/// A number above each value.
-pub(crate) fn span_of(keys: &[Option<u32>]) -> usize
-    ensures { AreBelow keys.now result }
-{
-    let mut span: usize = 0;
-    for key in keys {
-        if let Some(b) = key {
-            if *b as usize >= span {
-                span = *b as usize + 1;
-            }
-        }
-    }
-    span
 }
 
 // Whether numbers with one value in the first list have one in the second, by the first number with each value.

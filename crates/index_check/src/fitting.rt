@@ -3,7 +3,7 @@ ghost use Rattle.std.specs.Prelude.{◌≡◌, ◌<◌, ◌↔◌, length, IfOk,
 ghost use Rattle.bisim_spec.specs.Partitions.{IsPartition};
 ghost use Rattle.index_file.specs.FittingViews.{FitsVia, FitsView, IsStableMinimal};
 ghost use Rattle.index_file.specs.SavedGraphs.{blocks_at};
-ghost use Rattle.index_check.specs.NumberedShapes.{digraph_shape};
+ghost use Rattle.round_refinement.specs.NumberedShapes.{digraph_shape};
 
 use crate::both::{fits_both, fits_level_both};
 use crate::levels::fits_level;

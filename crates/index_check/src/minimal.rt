@@ -1,16 +1,15 @@
 // Whether no two blocks of a stable partition can be merged.
 ghost use Rattle.std.specs.Prelude.{◌≡◌, ◌↔◌, ℕ, IfOk, IsTrue};
 ghost use Rattle.bisim_spec.specs.Stability.{Stable, Minimal};
-ghost use Rattle.index_check.specs.NumberedShapes.{digraph_shape};
+ghost use Rattle.round_refinement.specs.NumberedShapes.{digraph_shape};
 
 use crate::closed::refine_by_closed;
 use crate::comparing::{are_both, determines};
-use crate::levels::label_list;
 use crate::outer::{inner_labels, tells_by_outer};
-use crate::refining::refine;
 use bisim_spec::Side;
 use label_graph::Digraph;
 use px_base::Memory;
+use round_refinement::{label_list, refine};
 use std::alloc::Global;
 
 /// Whether no two blocks of a stable partition can be merged (Yi et al. 2004). Two blocks of one label can be merged exactly where

@@ -3,7 +3,7 @@ ghost use Rattle.std.specs.Prelude.{◌≡◌, ◌↔◌, [], ℕ, List, Some, I
 ghost use Rattle.graph_spec.specs.Members.{at};
 ghost use Rattle.key_table.specs.NumberedKeys.{AreDistinct, Interns};
 ghost use Rattle.bisim_spec.specs.NodeKeys.{IsWritten};
-ghost use Rattle.index_check.specs.Numbering.{AreNumbered, Numbers};
+ghost use Rattle.round_refinement.specs.Numbering.{AreNumbered, Numbers};
 ghost use Rattle.index_check.specs.OuterParents.{
   is_outer_parent,
   AreInnerLabels,
@@ -16,10 +16,10 @@ ghost use Rattle.index_check.specs.OuterParents.{
 };
 
 use crate::comparing::{are_both, determines};
-use crate::keys::{block_of, write_key};
 use key_table::KeyTable;
 use label_graph::Digraph;
 use px_base::Memory;
+use round_refinement::{block_of, write_key};
 use std::alloc::Global;
 
 // The block, where it isn't the own one.

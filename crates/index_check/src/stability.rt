@@ -2,14 +2,13 @@
 ghost use Rattle.std.specs.Prelude.{◌≡◌, ◌≤◌, ◌↔◌, ℕ, IfOk, IsTrue, length};
 ghost use Rattle.bisim_spec.specs.Partitions.{IsPartition};
 ghost use Rattle.bisim_spec.specs.Stability.{Stable, StableBoth};
-ghost use Rattle.index_check.specs.NumberedShapes.{digraph_shape};
+ghost use Rattle.round_refinement.specs.NumberedShapes.{digraph_shape};
 
 use crate::comparing::{are_both, determines};
-use crate::levels::label_list;
-use crate::refining::refine;
 use bisim_spec::Side;
 use label_graph::Digraph;
 use px_base::Memory;
+use round_refinement::{label_list, refine};
 use std::alloc::Global;
 
 /// Whether the partition is stable: nodes of one block have one label, and parents in the same blocks (Milo and Suciu, ICDT 1999).

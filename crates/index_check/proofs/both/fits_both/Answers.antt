@@ -1,10 +1,10 @@
 use Rattle.std.proofs.Common.{refl, sym, ◌∙◌, subst, true≢false}
 use Rattle.bisim_spec.specs.Stability.{StableBoth}
 use Rattle.bisim_spec.proofs.Stable.{fb_stable}
-use Rattle.index_check.specs.NumberedShapes.{digraph_shape}
-use Rattle.index_check.specs.Active.{IsCoarse}
-use Rattle.index_check.proofs.LevelLaws.{is_shape_by_number}
-use Rattle.index_check.proofs.ActiveLaws.{found_full, full_found}
+use Rattle.round_refinement.specs.NumberedShapes.{digraph_shape}
+use Rattle.round_refinement.specs.Active.{IsCoarse}
+use Rattle.round_refinement.proofs.LevelLaws.{is_shape_by_number}
+use Rattle.index_check.proofs.LevelLaws.{found_full, full_found}
 use Rattle.index_check.proofs.both.fits_both.Goals as goal
 
 pub returns-then-not-stable : goal.returns-then-not-stable

@@ -1,9 +1,10 @@
 use Rattle.std.proofs.lemmas.Result.{IfOk-weaker}
 use Rattle.std.proofs.Common.{◌↔◌, Bool, IsTrue}
 use Rattle.bisim_spec.specs.Bisimilarity.{Both}
-use Rattle.index_check.specs.NumberedShapes.{digraph_shape}
+use Rattle.round_refinement.specs.NumberedShapes.{digraph_shape}
 use Rattle.index_check.specs.ComparedLists.{AreSame}
-use Rattle.index_check.proofs.LevelLaws.{right_where_same, same_where_right, agree_as}
+use Rattle.index_check.proofs.LevelLaws.{right_where_same, same_where_right}
+use Rattle.round_refinement.proofs.LevelLaws.{agree_as}
 use Rattle.index_check.proofs.both.fits_level_both.Goals as goal
 
 pub returns : goal.returns

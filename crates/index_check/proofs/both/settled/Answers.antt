@@ -1,7 +1,8 @@
 use Rattle.std.proofs.Common.{arith}
 use Rattle.bisim_spec.specs.Bisimilarity.{Both}
-use Rattle.index_check.specs.NumberedShapes.{digraph_shape}
-use Rattle.index_check.proofs.LevelLaws.{labels_agree, both_more, agree_as, determines_as, settled_full, counted_full, is_shape_by_number, few_nodes}
+use Rattle.round_refinement.specs.NumberedShapes.{digraph_shape}
+use Rattle.round_refinement.proofs.LevelLaws.{labels_agree, both_more, agree_as, is_shape_by_number}
+use Rattle.index_check.proofs.LevelLaws.{determines_as, settled_full, counted_full, few_nodes}
 use Rattle.index_check.proofs.both.settled.Goals as goal
 
 pub loop-j-init : goal.loop-j-init

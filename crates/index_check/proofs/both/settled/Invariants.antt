@@ -1,6 +1,6 @@
 use Rattle.bisim_spec.specs.Bisimilarity.{Both}
 use Rattle.bisim_spec.specs.Partitions.{Agrees}
-use Rattle.index_check.specs.NumberedShapes.{digraph_shape}
+use Rattle.round_refinement.specs.NumberedShapes.{digraph_shape}
 use Rattle.index_check.proofs.both.settled.Given as goal
 
 abbrev pub invariant-loop-j : goal.invariant-loop-j

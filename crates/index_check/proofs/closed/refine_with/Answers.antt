@@ -1,8 +1,8 @@
 use Rattle.std.proofs.Common.{arith}
 use Rattle.bisim_spec.specs.declared.sides.Side.TheVariants.{Parents}
 use Rattle.index_check.proofs.ClosedKeys.{closed_block}
-use Rattle.index_check.proofs.NeighbourBlocks.{neighbour_block}
-use Rattle.index_check.proofs.NumberedNodes.{numbered_more, numbered_all, numbered_refines}
+use Rattle.round_refinement.proofs.NeighbourBlocks.{neighbour_block}
+use Rattle.round_refinement.proofs.NumberedNodes.{numbered_more, numbered_all, numbered_refines}
 use Rattle.index_check.proofs.closed.refine_with.Goals as goal
 
 pub loop-n-preserved : goal.loop-n-preserved

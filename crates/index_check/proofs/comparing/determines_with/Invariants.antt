@@ -1,5 +1,6 @@
 use Rattle.std.proofs.Common.{length}
-use Rattle.index_check.specs.ComparedLists.{AreBelow, AreCompared}
+use Rattle.round_refinement.specs.Numbering.{AreBelow}
+use Rattle.index_check.specs.ComparedLists.{AreCompared}
 use Rattle.index_check.proofs.comparing.determines_with.Given as goal
 
 abbrev pub invariant-loop-n : goal.invariant-loop-n

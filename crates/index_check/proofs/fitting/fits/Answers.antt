@@ -4,7 +4,7 @@ use Rattle.label_graph.specs.GraphViews.{label_number, is_linked}
 use Rattle.bisim_spec.specs.Partitions.{IsPartition}
 use Rattle.index_file.specs.FittingViews.{FitsVia}
 use Rattle.index_file.specs.SavedGraphs.{blocks_at}
-use Rattle.index_check.specs.NumberedShapes.{shape_by_number}
+use Rattle.round_refinement.specs.NumberedShapes.{shape_by_number}
 use Rattle.index_check.proofs.ViaLaws.{via_told, partition_told, view_told}
 use Rattle.index_check.proofs.fitting.fits.Goals as goal
 

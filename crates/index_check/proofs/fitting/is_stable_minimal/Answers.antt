@@ -1,7 +1,7 @@
 use Rattle.std.proofs.Common.{◌↔◌, Bool, IsTrue, true≢false, sym, ◌∙◌}
 use Rattle.std.proofs.lemmas.Result.{IfOk-weaker}
 use Rattle.bisim_spec.specs.Stability.{Minimal}
-use Rattle.index_check.specs.NumberedShapes.{digraph_shape}
+use Rattle.round_refinement.specs.NumberedShapes.{digraph_shape}
 use Rattle.index_check.proofs.fitting.is_stable_minimal.Goals as goal
 
 pub is_minimal-requires : goal.is_minimal-requires

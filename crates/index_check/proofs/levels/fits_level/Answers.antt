@@ -1,9 +1,10 @@
 use Rattle.std.proofs.lemmas.Result.{IfOk-weaker}
 use Rattle.std.proofs.Common.{◌↔◌, Bool, IsTrue}
 use Rattle.bisim_spec.specs.Bisimilarity.{Bis}
-use Rattle.index_check.specs.NumberedShapes.{digraph_shape}
+use Rattle.round_refinement.specs.NumberedShapes.{digraph_shape}
 use Rattle.index_check.specs.ComparedLists.{AreSame}
-use Rattle.index_check.proofs.LevelLaws.{right_where_same, same_where_right, agree_as}
+use Rattle.index_check.proofs.LevelLaws.{right_where_same, same_where_right}
+use Rattle.round_refinement.proofs.LevelLaws.{agree_as}
 use Rattle.index_check.proofs.levels.fits_level.Goals as goal
 
 pub returns : goal.returns

@@ -1,7 +1,7 @@
 use Rattle.std.proofs.Common.{◌≤◌}
 use Rattle.bisim_spec.specs.Bisimilarity.{Bis}
 use Rattle.bisim_spec.specs.Partitions.{Agrees}
-use Rattle.index_check.specs.NumberedShapes.{digraph_shape}
+use Rattle.round_refinement.specs.NumberedShapes.{digraph_shape}
 use Rattle.index_check.proofs.levels.level.Given as goal
 
 abbrev pub invariant-loop-j : goal.invariant-loop-j

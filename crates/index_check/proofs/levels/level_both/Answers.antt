@@ -1,5 +1,6 @@
 use Rattle.std.proofs.Common.{arith}
-use Rattle.index_check.proofs.LevelLaws.{labels_agree, both_more, both_same, agree_as}
+use Rattle.round_refinement.proofs.LevelLaws.{labels_agree, both_more, agree_as}
+use Rattle.index_check.proofs.LevelLaws.{both_same}
 use Rattle.index_check.proofs.levels.level_both.Goals as goal
 
 pub loop-j-init : goal.loop-j-init

@@ -1,6 +1,7 @@
-use Rattle.index_check.proofs.LevelLaws.{bis_up, refined_partition, node_of, of_node}
-use Rattle.index_check.specs.NumberedShapes.{digraph_shape}
-use Rattle.index_check.specs.NeighbourSides.{is_neighbour}
+use Rattle.index_check.proofs.LevelLaws.{bis_up}
+use Rattle.round_refinement.proofs.LevelLaws.{refined_partition, node_of, of_node}
+use Rattle.round_refinement.specs.NumberedShapes.{digraph_shape}
+use Rattle.round_refinement.specs.NeighbourSides.{is_neighbour}
 use Rattle.bisim_spec.specs.declared.sides.Side.TheVariants.{Parents}
 use Rattle.index_check.proofs.levels.next_level.Goals as goal
 

@@ -4,7 +4,8 @@ use Rattle.graph_spec.specs.Members.{at}
 use Rattle.bisim_spec.proofs.Bisimilar.{some_of, is_some_at}
 use Rattle.index_check.specs.ClosedParents.{is_closed_parent}
 use Rattle.index_check.specs.OuterParents.{TellsByOuter, AreInnerLabels}
-use Rattle.index_check.proofs.LevelLaws.{determines_as, refines_own, of_node, is_shape_by_number}
+use Rattle.index_check.proofs.LevelLaws.{determines_as, refines_own}
+use Rattle.round_refinement.proofs.LevelLaws.{of_node, is_shape_by_number}
 use Rattle.index_check.proofs.MinimalLaws.{minimal_where, keys_where, closed_where, outer_where}
 use Rattle.index_check.proofs.minimal.is_minimal.Goals as goal
 

@@ -1,6 +1,6 @@
 use Rattle.std.proofs.Common.{arith, sym, ◌∙◌, ap, true≢false}
 use Rattle.graph_spec.specs.Members.{at}
-use Rattle.index_check.proofs.NeighbourBlocks.{place_of}
+use Rattle.round_refinement.proofs.NeighbourBlocks.{place_of}
 use Rattle.index_check.proofs.outer.has_inner_parent.Goals as goal
 
 pub returns : goal.returns

@@ -1,7 +1,7 @@
 use Rattle.std.proofs.Common.{rules, sym, ◌∙◌, ap, Some}
 use Rattle.graph_spec.specs.Members.{at}
 use Rattle.bisim_spec.specs.declared.sides.Side.TheVariants.{Parents}
-use Rattle.index_check.proofs.NeighbourBlocks.{neighbour_block}
+use Rattle.round_refinement.proofs.NeighbourBlocks.{neighbour_block}
 use Rattle.index_check.proofs.OuterKeys.{whole_key}
 use Rattle.index_check.proofs.outer.has_whole_key.Goals as goal
 

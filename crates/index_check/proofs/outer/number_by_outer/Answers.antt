@@ -1,5 +1,5 @@
 use Rattle.std.proofs.Common.{arith}
-use Rattle.index_check.proofs.NumberedNodes.{numbered_more, numbered_all}
+use Rattle.round_refinement.proofs.NumberedNodes.{numbered_more, numbered_all}
 use Rattle.index_check.proofs.outer.number_by_outer.Goals as goal
 
 pub loop-n-preserved : goal.loop-n-preserved

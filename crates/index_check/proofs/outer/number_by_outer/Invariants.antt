@@ -1,7 +1,7 @@
 use Rattle.key_table.specs.NumberedKeys.{AreDistinct}
 use Rattle.graph_spec.specs.Members.{at}
 use Rattle.index_check.specs.OuterParents.{is_outer_parent}
-use Rattle.index_check.proofs.NumberedNodes.{NumberedBelow}
+use Rattle.round_refinement.proofs.NumberedNodes.{NumberedBelow}
 use Rattle.index_check.proofs.outer.number_by_outer.Given as goal
 
 abbrev pub invariant-loop-n : goal.invariant-loop-n

@@ -3,7 +3,7 @@ use Rattle.std.proofs.lemmas.Bool.{and_parts, and_from}
 use Rattle.graph_spec.specs.Members.{at}
 use Rattle.bisim_spec.specs.declared.sides.Side.TheVariants.{Parents}
 use Rattle.index_check.proofs.LevelLaws.{determines_as}
-use Rattle.index_check.proofs.NeighbourBlocks.{neighbour_block}
+use Rattle.round_refinement.proofs.NeighbourBlocks.{neighbour_block}
 use Rattle.index_check.proofs.OuterKeys.{tells_from, tells_apart}
 use Rattle.index_check.proofs.outer.tells_with.Goals as goal
 

@@ -1,6 +1,7 @@
 use Rattle.std.proofs.Common.{refl, sym, ◌∙◌}
 use Rattle.std.proofs.lemmas.Bool.{and_parts, and_from}
-use Rattle.index_check.proofs.LevelLaws.{determines_as, node_of, of_node}
+use Rattle.index_check.proofs.LevelLaws.{determines_as}
+use Rattle.round_refinement.proofs.LevelLaws.{node_of, of_node}
 use Rattle.index_check.proofs.Stable.{stable_where, labels_where, stays_where}
 use Rattle.index_check.proofs.stability.is_stable.Goals as goal
 

@@ -1,6 +1,7 @@
 use Rattle.std.proofs.Common.{refl, sym, ◌∙◌, true≢false}
-use Rattle.index_check.specs.NumberedShapes.{digraph_shape}
-use Rattle.index_check.proofs.LevelLaws.{determines_as, node_of, of_node}
+use Rattle.round_refinement.specs.NumberedShapes.{digraph_shape}
+use Rattle.index_check.proofs.LevelLaws.{determines_as}
+use Rattle.round_refinement.proofs.LevelLaws.{node_of, of_node}
 use Rattle.index_check.proofs.Stable.{stable_both_where, stays_both_where}
 use Rattle.index_check.proofs.stability.is_stable_both.Goals as goal
 

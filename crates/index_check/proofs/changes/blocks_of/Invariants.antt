@@ -1,9 +1,0 @@
-use Rattle.std.proofs.Common.{◌≤◌, length}
-use Rattle.index_check.proofs.ChangeLaws.{BlocksBelow}
-use Rattle.index_check.proofs.changes.blocks_of.Given as goal
-
-abbrev pub invariant-loop-i : goal.invariant-loop-i
-invariant-loop-i l = record {
-  blocks : BlocksBelow l.block l.nodes l.i l.numbers.items;
-  within : l.i ≤ length l.nodes;
-}

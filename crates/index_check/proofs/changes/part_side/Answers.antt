@@ -1,8 +1,0 @@
-use Rattle.std.proofs.Common.{sym, subst}
-use Rattle.index_check.specs.Active.{AreMoves}
-use Rattle.index_check.proofs.changes.part_side.Goals as goal
-
-pub number_all-requires-clause-near : goal.number_all-requires-clause-near
-number_all-requires-clause-near g c =
-    c.in_ok-find_near.ensures c.args.parts.now.before.items c.args.parts.now.block.items
-    (subst (AreMoves c.args.parts.now.before.items c.args.parts.now.block.items) (sym c.deref.ensures.value) c.requires.moves)

@@ -1,6 +1,0 @@
-use Rattle.std.proofs.Common.{◌≡◌, ℕ, ◌<◌, Some}
-use Rattle.graph_spec.specs.Members.{at}
-use Rattle.index_check.proofs.comparing.span_of.Given as goal
-
-abbrev pub invariant-loop-key : goal.invariant-loop-key
-invariant-loop-key l = (m b : ℕ) → m < l.key-index → at l.keys m ≡ Some b → b < l.span

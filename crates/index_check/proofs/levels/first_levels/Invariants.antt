@@ -1,7 +1,0 @@
-use Rattle.bisim_spec.specs.Bisimilarity.{Both}
-use Rattle.bisim_spec.specs.Partitions.{Agrees}
-use Rattle.index_check.specs.NumberedShapes.{digraph_shape}
-use Rattle.index_check.proofs.levels.first_levels.Given as goal
-
-abbrev pub invariant-loop-j : goal.invariant-loop-j
-invariant-loop-j g l = Agrees (digraph_shape g.G.Digraph l.g) l.block.items (Both (digraph_shape g.G.Digraph l.g) l.j)

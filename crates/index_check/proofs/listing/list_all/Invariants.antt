@@ -1,5 +1,0 @@
-use Rattle.index_check.proofs.ListingLaws.{ListedBelow}
-use Rattle.index_check.proofs.listing.list_all.Given as goal
-
-abbrev pub invariant-loop-n : goal.invariant-loop-n
-invariant-loop-n l = ListedBelow l.block l.n l.lists

@@ -1,0 +1,96 @@
+-- What a round changed about the neighbours of nodes: the blocks to which they came, and those which all of them left.
+use Rattle.std.specs.Prelude.{ℕ, ◌≡◌, ◌≢◌, ◌<◌, ◌*◌, ◌/◌, ◌%◌, ◌^◌, ◌⊎◌, ◌||◌, ◌&&◌, nat_eq, Bool, true, List, ◌∷◌, length, Option, Some, IsTrue, slice_get}
+use Rattle.std.specs.List.Sorted.{IsStrictlyIncreasing}
+use Rattle.graph_spec.specs.Members.{at, has}
+use Rattle.bisim_spec.specs.Bisimilarity.{Matched}
+use Rattle.bisim_spec.specs.Partitions.{Together}
+use Rattle.hash_index.specs.Items.{Items}
+use Rattle.round_refinement.specs.Active.{StayTogether, number_in}
+use Rattle.round_refinement.specs.Listing.{IsOn}
+
+-- Bits from the middle of a product: numbers that stand a power of two apart differ in the lower ones, by which an index finds its items. That it
+-- is a function of the number is all that lists need of it.
+unfoldable pub spread_of : ℕ → ℕ
+spread_of n = (n * 0x2545F4914F6CDD1D) % 2 ^ 64 / 2 ^ 32
+
+-- p is on the list of n
+abbrev pub IsNear : Items (ℕ × ℕ) → ℕ → ℕ → Type 0
+IsNear near n p = IsOn near (spread_of n) (n, p)
+
+-- q is on the lists of these, and the lists have nothing else that is new
+pub record PutsNear (of : ℕ → Bool) (q : ℕ) (old new : Items (ℕ × ℕ)) : Type 0 where
+  pub kept : (n p : ℕ) → IsNear old n p → IsNear new n p
+  pub put : (n : ℕ) → of n ≡ true → IsNear new n q
+  pub only : (n p : ℕ) → IsNear new n p → IsNear old n p ⊎ ((of n ≡ true) × (p ≡ q))
+
+-- on the list of each number there are those of its neighbours that moved
+pub record AreNear (neighbour_of : ℕ → ℕ → Bool) (before now : List (Option ℕ)) (near : Items (ℕ × ℕ)) : Type 0 where
+  pub each : (n p : ℕ) → IsNear near n p → IsTrue (neighbour_of p n) × (at now p ≢ at before p)
+  pub every : (n p : ℕ) → IsTrue (neighbour_of p n) → at now p ≢ at before p → IsNear near n p
+
+-- these are on the list of n
+pub record AreOn (near : Items (ℕ × ℕ)) (n : ℕ) (nodes : List ℕ) : Type 0 where
+  pub each : (p : ℕ) → has nodes p ≡ true → IsNear near n p
+  pub every : (p : ℕ) → IsNear near n p → has nodes p ≡ true
+
+-- what stands beside n is put behind the others, if the item is one of n
+abbrev pub PushesIfNear : ℕ → ℕ × ℕ → List ℕ → List ℕ → Type 0
+PushesIfNear n item old new = (p : ℕ) → has new p ≡ (has old p || (nat_eq item.0 n && nat_eq p item.1))
+
+-- a neighbour came to the block
+pub record IsGained (neighbour_of : ℕ → ℕ → Bool) (before now : List (Option ℕ)) (n b : ℕ) : Type 0 where
+  pub neighbour : ℕ
+  pub is_one : IsTrue (neighbour_of neighbour n)
+  pub moves : at now neighbour ≢ at before neighbour
+  pub is_there : at now neighbour ≡ Some b
+
+-- no neighbour is in the block
+abbrev pub IsLeft : (ℕ → ℕ → Bool) → List (Option ℕ) → ℕ → ℕ → Type 0
+IsLeft neighbour_of now n b = (p : ℕ) → IsTrue (neighbour_of p n) → at now p ≢ Some b
+
+-- a neighbour was in the block, and none is now
+pub record IsLost (neighbour_of : ℕ → ℕ → Bool) (before now : List (Option ℕ)) (n b : ℕ) : Type 0 where
+  pub neighbour : ℕ
+  pub is_one : IsTrue (neighbour_of neighbour n)
+  pub was_there : at before neighbour ≡ Some b
+  pub left : IsLeft neighbour_of now n b
+
+-- those of the blocks are put behind the others in which n has no neighbour
+pub record LosesSome (neighbour_of : ℕ → ℕ → Bool) (now : List (Option ℕ)) (n : ℕ) (left old new : List ℕ) : Type 0 where
+  pub kept : (b : ℕ) → has old b ≡ true → has new b ≡ true
+  pub put : (b : ℕ) → has left b ≡ true → IsLeft neighbour_of now n b → has new b ≡ true
+  pub only : (b : ℕ) → has new b ≡ true → (has old b ≡ true) ⊎ ((has left b ≡ true) × IsLeft neighbour_of now n b)
+
+-- the blocks that were gained or lost, rising, each once
+pub record AreChanges (neighbour_of : ℕ → ℕ → Bool) (before now : List (Option ℕ)) (n : ℕ) (changes : List ℕ) : Type 0 where
+  pub rising : IsStrictlyIncreasing changes
+  pub each : (b : ℕ) → has changes b ≡ true → IsGained neighbour_of before now n b ⊎ IsLost neighbour_of before now n b
+  pub gained : (b : ℕ) → IsGained neighbour_of before now n b → has changes b ≡ true
+  pub lost : (b : ℕ) → IsLost neighbour_of before now n b → has changes b ≡ true
+
+-- the number of the key that is made of a number of its own and its changes, by a table of keys
+pub record IsNumber (neighbour_of : ℕ → ℕ → Bool) (before now : List (Option ℕ)) (table : List (List ℕ)) (n own k : ℕ) : Type 0 where
+  pub changes : List ℕ
+  pub key_at : slice_get table k ≡ Some (own ∷ changes)
+  pub are_changes : AreChanges neighbour_of before now n changes
+
+-- keys that were there stay, and the node has this number
+pub record TakesNumber (neighbour_of : ℕ → ℕ → Bool) (before now : List (Option ℕ)) (old new : List (List ℕ)) (n own k : ℕ) : Type 0 where
+  pub stay : (j : ℕ) (key : List ℕ) → slice_get old j ≡ Some key → slice_get new j ≡ Some key
+  pub number : (b : ℕ) → at now n ≡ Some b → IsNumber neighbour_of before now new n own k
+
+-- the two are in one block, and each neighbour of the one stayed together with one of the other
+pub record AreSame (neighbour_of : ℕ → ℕ → Bool) (before now : List (Option ℕ)) (u v : ℕ) : Type 0 where
+  pub own : Together now u v
+  pub neighbours : Matched (λ p n. IsTrue (neighbour_of p n)) (StayTogether before now) u v
+
+-- active nodes that have one number still have one, if their neighbours stayed together
+pub record AreParted (neighbour_of : ℕ → ℕ → Bool) (before now : List (Option ℕ)) (active own numbers : List ℕ) : Type 0 where
+  pub length_is : length numbers ≡ length active
+  pub same : (i j : ℕ) → i < length active → j < length active → AreSame neighbour_of before now (number_in active i) (number_in active j)
+      → number_in own i ≡ number_in own j → number_in numbers i ≡ number_in numbers j
+
+-- the numbers of the nodes' blocks
+pub record AreBlocksOf (block : List (Option ℕ)) (nodes numbers : List ℕ) : Type 0 where
+  pub length_is : length numbers ≡ length nodes
+  pub each : (i b : ℕ) → i < length nodes → at block (number_in nodes i) ≡ Some b → number_in numbers i ≡ b
