@@ -11,7 +11,8 @@ views.
 Then it has files checked that are made to be slow: at twice the size a check should take twice as long. In `hub` each node of a chain of one
 label leads to one more node. In `ring` each round of refinement parts two nodes from thousands, and in `hubs` each has two more nodes to
 look at that have thousands of children. In `twins` each node of the chain has 65 more parents, and these have as many children as the chain
-has nodes. In `parting` there are as many hubs as other nodes, and a round parts one of each: here twice the edges are twice the size.
+has nodes. In `parting` there are as many hubs as other nodes, and a round parts one of each: here twice the edges are twice the size. In
+`chains` the nodes that a round looks at are numbered 1,024 apart.
 """
 import os
 import pathlib
@@ -27,6 +28,7 @@ CASES = [("dag", 200_000, 5), ("cyclic", 200_000, 5), ("deep", 200_000, 5), ("da
 SLOW = [50_000, 100_000]
 TWINS = [8_000, 16_000]
 PARTING = [700, 990]
+CHAINS = [1024 * 256, 1024 * 512]
 
 
 def run(command, output=subprocess.DEVNULL):
@@ -80,10 +82,9 @@ def measure(program, folder, kind, count, turns):
     print(f"    --check  {taken['check'][0]:>8.2f} s, {taken['check'][1]:.0f} MB", flush=True)
 
 
-def write_file(file, labels, edges, via, twins={}):
-    """Writes an index file with one view, in which each node has a block of its own, but for those that are with another one."""
-    ranks = [n - sum(twin < n for twin in twins) for n in range(len(labels))]
-    ranks = [ranks[twins.get(n, n)] for n in range(len(labels))]
+def write_file(file, labels, edges, via, ranks=None):
+    """Writes an index file with one view. Each node has a block of its own, if no ranks are given."""
+    ranks = range(len(labels)) if ranks is None else ranks
     lines = ["pathindex 1", f"given {len(labels)} k 0", *(f"live {label}" for label in labels), f"edges {len(edges)}"]
     lines += [*(f"{start} {end}" for start, end in sorted(edges)), "views 1", f"view {via}", *map(str, ranks)]
     with open(file, "w") as out:
@@ -119,7 +120,7 @@ def write_twins(file, count):
     """A chain, and two more nodes of one block that lead to all of it. So do 65 nodes that are alone in their blocks."""
     tells = range(count + 2, count + 67)
     edges = [(n, n + 1) for n in range(count - 1)] + [(start, n) for start in (count, count + 1, *tells) for n in range(count)]
-    write_file(file, ["a"] * count + ["h", "h", *(f"t{n}" for n in tells)], edges, "fb", {count + 1: count})
+    write_file(file, ["a"] * count + ["h", "h", *(f"t{n}" for n in tells)], edges, "fb", [*range(count + 1), *range(count, count + 66)])
 
 
 def write_parting(file, count):
@@ -128,10 +129,16 @@ def write_parting(file, count):
     write_file(file, ["m"] + ["a"] * (count - 1) + ["h"] * count, edges, "fb")
 
 
+def write_chains(file, count):
+    """Chains of 1,024 nodes of one label, one after the other."""
+    edges = [(n, n + 1) for n in range(count - 1) if n % 1024 != 1023]
+    write_file(file, ["a"] * count, edges, "fb", [n % 1024 for n in range(count)])
+
+
 def measure_slow(program, folder):
     file = os.path.join(folder, "slow")
-    for kind, write in (("hub", write_hub), ("ring", write_ring), ("hubs", write_hubs), ("twins", write_twins), ("parting", write_parting)):
-        for count in {"twins": TWINS, "parting": PARTING}.get(kind, SLOW):
+    for kind, write in (("hub", write_hub), ("ring", write_ring), ("hubs", write_hubs), ("twins", write_twins), ("parting", write_parting), ("chains", write_chains)):
+        for count in {"twins": TWINS, "parting": PARTING, "chains": CHAINS}.get(kind, SLOW):
             write(file, count)
             taken = best_of({"check": [program, "--check", file]}, 2)["check"]
             print(f"{kind}, {count:,} nodes: --check  {taken[0]:>8.2f} s, {taken[1]:.0f} MB", flush=True)
