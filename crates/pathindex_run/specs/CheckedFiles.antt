@@ -16,9 +16,13 @@ FitBelow file place = (j : ℕ) → j < place → FitsView file j
 
 -- the first view that doesn't fit is of this index
 pub record FirstDiffers (file : SavedFile) (via : Via) : Type 0 where
+  -- the place of that view in the file
   pub place : ℕ
+  -- it is the view of this index
   pub is_there : via_at file place ≡ Some via
+  -- all views before it fit
   pub before : FitBelow file place
+  -- it doesn't
   pub differs : ¬ FitsView file place
 
 -- each view fits, or the first that doesn't is of this index
