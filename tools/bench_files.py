@@ -14,6 +14,7 @@ look at that have thousands of children. In `twins` each node of the chain has 6
 has nodes. In `parting` there are as many hubs as other nodes, and a round parts one of each: here twice the edges are twice the size. In
 `chains` the nodes that a round looks at are numbered 1,024 apart.
 """
+import multiprocessing
 import os
 import pathlib
 import subprocess
@@ -139,7 +140,10 @@ def measure_slow(program, folder):
     file = os.path.join(folder, "slow")
     for kind, write in (("hub", write_hub), ("ring", write_ring), ("hubs", write_hubs), ("twins", write_twins), ("parting", write_parting), ("chains", write_chains)):
         for count in {"twins": TWINS, "parting": PARTING, "chains": CHAINS}.get(kind, SLOW):
-            write(file, count)
+            # in a process of its own, since a child's peak of memory is at least that of the process that starts it
+            writer = multiprocessing.Process(target=write, args=(file, count))
+            writer.start()
+            writer.join()
             taken = best_of({"check": [program, "--check", file]}, 2)["check"]
             print(f"{kind}, {count:,} nodes: --check  {taken[0]:>8.2f} s, {taken[1]:.0f} MB", flush=True)
 
