@@ -1,7 +1,7 @@
 #!/usr/bin/env python3
 """Prints how long and how many things are in this repository: measure_house.py [TIMES], where TIMES is a file that tools/time_gate.py wrote.
 
-The source lines over 160 characters, indentation included, the functions with more than twelve clauses of their own, the words of README.md and
+The source lines over 160 bytes, indentation included, the functions with more than twelve clauses of their own, the words of README.md and
 docs/*.md, the must-fail edits and the longest source files; and, from TIMES, the table of what each crate takes of the processor.
 """
 import pathlib
@@ -40,10 +40,10 @@ def clauses(lines):
 def show_contracts():
     long, many = [], []
     for path, lines in sources():
-        sizes = [(number, len(line)) for number, line in enumerate(lines, 1) if not line.startswith("ghost use")]
+        sizes = [(number, len(line.encode())) for number, line in enumerate(lines, 1) if not line.startswith("ghost use")]
         long += [f"{path}:{number} {size}" for number, size in sizes if size > LONGEST]
         many += [f"{path}:{number} {name} {count}" for (number, name), count in clauses(lines).items() if count > MOST_CLAUSES]
-    show(f"source lines over {LONGEST} characters", long)
+    show(f"source lines over {LONGEST} bytes", long)
     show(f"functions with more than {MOST_CLAUSES} clauses", many)
 
 

@@ -101,7 +101,8 @@ fn find_near<G: Digraph>(
     side: Side,
     moved: &[u32],
 ) -> Result<(), Memory>
-    ensures { OnOk result ((before now : List (Option ℕ)) → AreMoves before now moved.now → AreNear (is_neighbour side (G.edge g.now)) before now near.new) }
+    ensures { OnOk result ((before now : List (Option ℕ)) → AreMoves before now moved.now
+        → AreNear (is_neighbour side (G.edge g.now)) before now near.new) }
 {
     near.clear();
     for q in moved {
