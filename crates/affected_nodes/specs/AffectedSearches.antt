@@ -30,6 +30,9 @@ pub record AreWithinDistance (s : Shape) (from : ℕ → Bool) (k : ℕ) (found 
 
 -- the children of the first i of the nodes are put behind them
 pub record IsSpread (s : Shape) (nodes : List ℕ) (i : ℕ) (met : List ℕ) : Type 0 where
+  -- the nodes come first
   pub prefix : (rest : List ℕ) × (met ≡ nodes ++ rest)
+  -- each child of one of the first i is there
   pub into : (j n : ℕ) → j < i → IsTrue (s.edge (slice_index nodes j) n) → IsTrue (has met n)
+  -- there is nothing else
   pub only : (n : ℕ) → IsTrue (has met n) → IsTrue (has nodes n) ⊎ ((j : ℕ) × (j < i) × IsTrue (s.edge (slice_index nodes j) n))

@@ -43,7 +43,9 @@ AreNeighbourKeys sides g levels i =
 -- Above the lowest level the keys are as the blocks one level below and the supports say: exactly the nodes have a
 -- block that have one below, and the key of each block with members begins with the block below of each of them.
 pub record AreKeyedBySupports (sides : Sides) (below block : List (Option ℕ)) (key : ℕ → Option (List ℕ)) (support : ℕ → ℕ → ℕ) : Type 0 where
+  -- a node has a block exactly if it has one below
   pub nodes : (n : ℕ) → is_some (at block n) ≡ is_some (at below n)
+  -- the key of its block begins with its block below, and has the numbers of the blocks with support
   pub keyed : (n b : ℕ) → at block n ≡ Some b → IsKeyedBySupports sides (at below n) key support b
 
 -- the keys of the levels above the lowest are as the supports say

@@ -72,12 +72,19 @@ AreEmpty d = (i : ℕ) → changes_at d i ≡ no_keyed_changes
 -- Block b has the key. Where it didn't have it before, it was made with this label. The others are as they were, and so
 -- is b if it was a block.
 pub record HasBlock (label : ℕ) (key : List ℕ) (b : ℕ) (labels labels2 : List (Option ℕ)) (keys keys2 : ℕ → Option (List ℕ)) : Type 0 where
+  -- b is a block
   pub live : IsSome (at labels2 b)
+  -- it has this key
   pub key_is : keys2 b ≡ Some key
+  -- it had this key before, or it has this label
   pub found : (keys b ≡ Some key) ⊎ (at labels2 b ≡ Some label)
+  -- each other block has the label that it had
   pub other_labels : (c : ℕ) → c ≢ b → at labels2 c ≡ at labels c
+  -- and the key
   pub other_keys : (c : ℕ) → c ≢ b → keys2 c ≡ keys c
+  -- what had a label keeps it
   pub labels_stay : (c l : ℕ) → at labels c ≡ Some l → at labels2 c ≡ Some l
+  -- what had a key keeps it
   pub keys_stay : KeysStay keys keys2
 
 -- block b of a level has the key now, and was made with this label where no block had the key before

@@ -28,8 +28,12 @@ pub record AreBlocksBelow (next : List (Option ℕ)) (count : ℕ) : Type 0 wher
 -- One more node is numbered: keys that were there stay; the number is that of the node's key, and none where the node has
 -- no block; a key that is new is that of the node.
 pub record NumbersBy (own : ℕ → Option ℕ) (HasKey : ℕ → List ℕ → Type 0) (n : ℕ) (old new : List (List ℕ)) (number : Option ℕ) : Type 0 where
+  -- each key that was there keeps its number
   pub stay : (k : ℕ) (key : List ℕ) → slice_get old k ≡ Some key → slice_get new k ≡ Some key
+  -- a node without a block gets none
   pub none : own n ≡ None → number ≡ None
+  -- any other gets the number of its key
   pub some : (b : ℕ) → own n ≡ Some b
       → (k : ℕ) × (key : List ℕ) × (number ≡ Some k) × (slice_get new k ≡ Some key) × HasKey n key
+  -- a key that is new is the one of this node
   pub fresh : (k : ℕ) → length old ≤ k → k < length new → number ≡ Some k

@@ -20,7 +20,9 @@ Covers Neighbour R u v = (p : ℕ) → Neighbour p u → (q : ℕ) × Neighbour 
 
 -- each neighbour of the one is related to some neighbour of the other
 pub record Matched (Neighbour : ℕ → ℕ → Type 0) (R : ℕ → ℕ → Type 0) (u v : ℕ) : Type 0 where
+  -- each neighbour of u is related to some neighbour of v
   pub there : Covers Neighbour R u v
+  -- each neighbour of v is related to some neighbour of u
   pub back : Covers Neighbour R v u
 
 -- Nodes that are bisimilar to this level: at level 0 they have one label; one level up they are bisimilar to the level
@@ -35,8 +37,11 @@ Bisim s u v = Bis s (node_count s) u v
 
 -- A bisimulation: related nodes have one label, and each parent of the one is related to some parent of the other.
 pub record IsBisimulation (s : Shape) (R : ℕ → ℕ → Type 0) : Type 0 where
+  -- related nodes have one label
   pub label : (u v : ℕ) → R u v → SameLabel s u v
+  -- each parent of the one is related to some parent of the other
   pub there : (u v p : ℕ) → R u v → IsParent s p u → (q : ℕ) × IsParent s q v × R p q
+  -- and the other way round
   pub back : (u v q : ℕ) → R u v → IsParent s q v → (p : ℕ) × IsParent s p u × R p q
 
 -- the same over parents and children

@@ -22,7 +22,9 @@ view_at views i = slice_index_or views i None
 -- A view of a family of levels: its blocks are the nodes that are bisimilar to level i by the sides that count. By parents
 -- it is one of the A(i)-index, by parents and children one of the bounded forward and backward index.
 pub record FitsLevel (sides : Sides) (g : Graph) (i : ℕ) (v : View) : Type 0 where
+  -- labels and supports are those of the graph
   pub view : ViewFits g v
+  -- exactly the nodes have a block, and two share one exactly where they are bisimilar to level i by these sides
   pub agrees : Agrees (shape_of g) v.block_of (AtLevel sides (shape_of g) i)
 
 -- the kind of these families
@@ -39,7 +41,9 @@ pub record FitsOne (g : Graph) (v : View) : Type 0 where
 
 -- a view of the forward and backward index: its blocks are the nodes that are bisimilar by parents and children
 pub record FitsFb (g : Graph) (v : View) : Type 0 where
+  -- labels and supports are those of the graph
   pub view : ViewFits g v
+  -- exactly the nodes have a block, and two share one exactly where they are bisimilar by parents and children
   pub agrees : Agrees (shape_of g) v.block_of (FB (shape_of g))
 
 -- What the view of a level must be. Only that of the forward and backward index may be not computed.
@@ -69,5 +73,7 @@ view_count B k = k + 1
 
 -- the views of an index of this kind are those of the graph
 pub record Fits (kind : Kind) (views : List (Option View)) (g : Graph) : Type 0 where
+  -- there are as many views as an index of this kind may have
   pub count : HasCount kind (length views)
+  -- each of them is what that of its level must be
   pub each : (i : ℕ) → i < length views → FitsAt kind g i (view_at views i)

@@ -20,6 +20,7 @@ pub record View : Type 0 where
   pub block_of : List (Option ℕ)
   -- for each block the number of its label in the table of labels, and none where the number is no block
   pub labels : List (Option ℕ)
+  -- the supports of pairs of blocks; a pair that isn't in the table has none
   pub supports : SupportTable
 
 -- a view is stored as its three parts

@@ -9,6 +9,9 @@ use Rattle.bisim_spec.specs.Reach.{Acyclic}
 
 -- It is stable, no two of its blocks can be merged, and where no walk comes back to its beginning it is full bisimilarity.
 pub record IsMinimalIndex (s : Shape) (block : List (Option ℕ)) : Type 0 where
+  -- nodes of one block have one label, and parents in the same blocks
   pub stable : Stable s block
+  -- no two blocks can be merged
   pub minimal : Minimal s block
+  -- on an acyclic graph two nodes share a block exactly where they are fully bisimilar
   pub whole : Acyclic s → Agrees s block (Bisim s)

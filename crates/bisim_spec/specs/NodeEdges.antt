@@ -24,4 +24,5 @@ touching_count n parents children block x y =
 
 -- the two partitions differ at the node alone
 pub record DifferAlone (n : ℕ) (block block2 : List (Option ℕ)) : Type 0 where
+  -- each other node has the block that it had
   pub others : (m : ℕ) → m ≢ n → at block2 m ≡ at block m

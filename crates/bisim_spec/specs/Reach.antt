@@ -6,6 +6,7 @@ use Rattle.bisim_spec.specs.Below.{any_below}
 
 -- No walk of two nodes or more leads from a node to itself.
 pub record Acyclic (s : Shape) : Type 0 where
+  -- the word of each walk from a node to itself has at most one label
   pub alone : (u : ℕ) (word : List (List ℕ)) → Leads s u word u → length word ≤ 1
 
 -- The starting numbers, and the nodes to which at most so many edges lead from them. A starting number counts even where

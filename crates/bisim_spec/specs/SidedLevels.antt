@@ -38,5 +38,7 @@ affected sides s from i n = within_distance (spread sides s) from i n
 -- A node of the second shape that is no end has the label that it had in the first, and the same neighbours on the
 -- sides that count. A number that is no node of the second shape may have had any.
 pub record DiffersBy (sides : Sides) (ends : ℕ → Bool) (s s2 : Shape) : Type 0 where
+  -- such a node has the label that it had
   pub label : (n : ℕ) → IsNode s2 n → IsFalse (ends n) → s.label n ≡ s2.label n
+  -- on each side that counts its neighbours are the same
   pub edge : (d : Side) → IsTrue (counts sides d) → (p n : ℕ) → IsNode s2 n → IsFalse (ends n) → beside d s p n ≡ beside d s2 p n

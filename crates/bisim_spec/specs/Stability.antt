@@ -10,8 +10,11 @@ use Rattle.bisim_spec.specs.Partitions.{Together, IsPartition}
 -- Stable except perhaps at some nodes: exactly the nodes have a block, and of any two others in one block the labels
 -- are equal, and each parent of the one is in one block with some parent of the other.
 pub record StableBut (s : Shape) (block : List (Option ℕ)) (but : ℕ → Bool) : Type 0 where
+  -- exactly the nodes have a block
   pub partition : IsPartition s block
+  -- two nodes of one block, neither of them excepted, have one label
   pub label : (u v : ℕ) → IsFalse (but u) → IsFalse (but v) → Together block u v → s.label u ≡ s.label v
+  -- each parent of the one is in one block with some parent of the other
   pub parents : (u v : ℕ) → IsFalse (but u) → IsFalse (but v) → Together block u v → Covers (IsParent s) (Together block) u v
 
 -- stable at all nodes
@@ -20,7 +23,9 @@ Stable s block = StableBut s block (λ n. false)
 
 -- stable, and with children as with parents
 pub record StableBoth (s : Shape) (block : List (Option ℕ)) : Type 0 where
+  -- the partition is stable
   pub stable : Stable s block
+  -- of two nodes in one block, each child of the one is in one block with some child of the other
   pub children : (u v : ℕ) → Together block u v → Covers (IsChild s) (Together block) u v
 
 -- a node's block, once b is replaced by a

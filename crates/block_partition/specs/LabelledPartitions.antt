@@ -5,7 +5,9 @@ use Rattle.graph_spec.specs.Members.{at, is_this}
 
 -- for how many more numbers past the end of the list, and for how many more blocks, capacity is reserved
 pub record ReservedNumbers : Type 0 where
+  -- how many node numbers more fit
   pub nodes : ℕ
+  -- how many blocks more fit
   pub blocks : ℕ
 
 pub record Partition : Type 0 where

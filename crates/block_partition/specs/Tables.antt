@@ -5,18 +5,25 @@ use Rattle.block_partition.specs.LabelledPartitions.{Partition}
 
 -- for each place a number or none, and how many places fit with no more memory
 pub record Table : Type 0 where
+  -- for each place a number or none
   pub places : List (Option ℕ)
+  -- how many places fit with no more memory
   pub capacity : ℕ
 
 -- for each run of 64 numbers how many runs from it on have no free number, and a number below which none is
 pub record Gaps : Type 0 where
+  -- for each run of 64 numbers how many runs from it on have no free number
   pub full : List ℕ
+  -- a number below which none is free
   pub low : ℕ
 
 -- numbers, each below the span, and how many fit with no more memory
 pub record NumberSet : Type 0 where
+  -- the numbers
   pub numbers : List ℕ
+  -- each is below it
   pub span : ℕ
+  -- how many fit with no more memory
   pub capacity : ℕ
 
 -- the entry of a run, and zero past the end
@@ -56,7 +63,9 @@ grown xs len = xs ++ replicate (len - length xs) None
 
 -- the same places, and no less memory
 pub record KeepsPlaces (old new : Table) : Type 0 where
+  -- the places are the same
   pub places : new.places ≡ old.places
+  -- the memory isn't less
   pub capacity : old.capacity ≤ new.capacity
 
 -- the block b where no member stands before this one, and none where one does

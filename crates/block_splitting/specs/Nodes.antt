@@ -6,11 +6,14 @@ use Rattle.label_graph.specs.GraphViews.{label_number}
 
 -- nodes below a size, each once, in the order in which they came
 pub record NodeList : Type 0 where
+  -- the nodes are below it
   pub size : ℕ
+  -- each once, in the order in which they came
   pub nodes : List ℕ
 
 -- the same numbers stand in both lists
 pub record AreMarked (members nodes : List ℕ) : Type 0 where
+  -- a number stands in the one exactly where it stands in the other
   pub same : (n : ℕ) → has members n ≡ has nodes n
 
 -- all in the list are nodes of the graph

@@ -14,7 +14,9 @@ use Rattle.block_splitting.specs.Groups.{AreGrouped}
 
 -- both nodes have a neighbour in the splitter on the side, or neither has one
 pub record BothOrNeither (t : Side) (g : Graph) (splitter : ℕ → Bool) (u v : ℕ) : Type 0 where
+  -- if u has a neighbour in the splitter, v has one
   pub there : (p : ℕ) → IsNeighbour t g p u → splitter p ≡ true → (q : ℕ) × IsNeighbour t g q v × (splitter q ≡ true)
+  -- if v has one, u has one
   pub back : (p : ℕ) → IsNeighbour t g p v → splitter p ≡ true → (q : ℕ) × IsNeighbour t g q u × (splitter q ≡ true)
 
 -- two nodes are together exactly where they were, and both or neither have a parent in the splitter, and a child
@@ -33,8 +35,11 @@ pub record KeepLabels (old new : Partition) : Type 0 where
 
 -- the nodes that have a parent in the splitter, those that have a child there, and both together
 pub record AreTouched (g : Graph) (splitter parents children touched : List ℕ) : Type 0 where
+  -- those with a parent in the splitter
   pub by_parents : (n : ℕ) → has parents n ≡ list_any (λ q. is_neighbour Parents g q n) splitter
+  -- those with a child in it
   pub by_children : (n : ℕ) → has children n ≡ list_any (λ q. is_neighbour Children g q n) splitter
+  -- those with one or the other
   pub all : (n : ℕ) → has touched n ≡ (has parents n || has children n)
 
 abbrev pub bit_of : Bool → ℕ
@@ -43,8 +48,11 @@ bit_of false = 0
 
 -- the key of a node: its own block, whether it is of the one set, and whether of the other
 pub record FlagKey (parents children : ℕ → Bool) (block : List (Option ℕ)) (n : ℕ) (key : List ℕ) : Type 0 where
+  -- the block of the node
   pub own : ℕ
+  -- it is in that block
   pub own_is : at block n ≡ Some own
+  -- the key is the block and then the two bits
   pub is : key ≡ own ∷ bit_of (parents n) ∷ bit_of (children n) ∷ []
 
 -- the key of a node: its own block, and whether it is of the one list of touched nodes, and of the other

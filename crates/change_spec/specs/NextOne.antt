@@ -27,8 +27,12 @@ KeepsParents (s ∷ r ∷ ss) g2 block = ⊥
 -- that the change doesn't reach are together in p2 exactly where they were in p. Where it is one step that keeps the parent blocks of
 -- its target, so are all nodes. That the change is accepted is not said here.
 pub record OneStep (g : Graph) (p : List (Option ℕ)) (c : List Step) (g2 : Graph) (p2 : List (Option ℕ)) : Type 0 where
+  -- g2 is the graph after the steps
   pub made : g2 ≡ after c g
+  -- p2 is stable, no two of its blocks can be merged, and on an acyclic graph it is full bisimilarity
   pub index : IsMinimalIndex (shape_of g2) p2
+  -- two nodes of both graphs that the change doesn't reach are together exactly where they were
   pub outside : (u v : ℕ) → IsNode (shape_of g) u → IsNode (shape_of g) v → IsNode (shape_of g2) u → IsNode (shape_of g2) v
       → IsFalse (reach (shape_of g2) (targets c g) u) → IsFalse (reach (shape_of g2) (targets c g) v) → Together p2 u v ↔ Together p u v
+  -- so are any two nodes of g2, where the change keeps the parent blocks of its target
   pub still : KeepsParents c g2 p → (u v : ℕ) → IsNode (shape_of g2) u → IsNode (shape_of g2) v → Together p2 u v ↔ Together p u v

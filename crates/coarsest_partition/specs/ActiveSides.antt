@@ -28,12 +28,17 @@ other_of Children = Parents
 
 -- The blocks of a graph are by labels, and each node of a block is active on both sides.
 pub record AreBothSidesActive (g : Graph) (block : List (Option ℕ)) (parents children : NodeList) : Type 0 where
+  -- the graph is one
   pub graph : IsGraph g
+  -- two nodes share a block exactly where they have one label
   pub labels : Agrees (shape_of g) block (SameLabel (shape_of g))
+  -- both lists have nodes of the graph
   pub parents_are : AreNodes g parents.nodes
   pub children_are : AreNodes g children.nodes
+  -- their sizes are that of the graph
   pub parents_size : parents.size ≡ length g.allocated
   pub children_size : children.size ≡ length g.allocated
+  -- each node with a block is on both
   pub by_parents : (n : ℕ) → IsSome (at block n) → has parents.nodes n ≡ true
   pub by_children : (n : ℕ) → IsSome (at block n) → has children.nodes n ≡ true
 

@@ -7,11 +7,14 @@ use Rattle.command_line.specs.Forms.{Form, runs, makes, checks, neither}
 
 -- the text of each argument, if it is there, and which flags are
 pub record Arguments : Type 0 where
+  -- the name of the script, and of the graph file
   pub script : Option (List ℕ)
   pub graph : Option (List ℕ)
+  -- the highest level, the seed and the name of the index file, as they are spelled
   pub k : Option (List ℕ)
   pub make : Option (List ℕ)
   pub check : Option (List ℕ)
+  -- whether each flag is there
   pub without_one : Bool
   pub without_fb : Bool
   pub with_bk : Bool

@@ -10,7 +10,9 @@ use Rattle.extent_report.specs.ListedBlocks.{DecidesEach, extents_text, block_to
 
 -- What an index shows: it is kept, and the test decides its relation.
 pub record ShowsIndex (g : Graph) (kept : KeptIndexes) (via : Via) (r : ℕ → ℕ → Bool) : Type 0 where
+  -- the index is kept
   pub is_kept : is_kept kept via ≡ true
+  -- the test passes two nodes exactly where the index relates them
   pub decides : DecidesEach r (Relates g kept via)
 
 -- the text lists the blocks of the index
@@ -24,8 +26,11 @@ pub record ListsIndex (g : Graph) (kept : KeptIndexes) (via : Via) (text : List 
 
 -- the line says how many blocks the index has, and how many pairs of them an edge joins
 pub record IsSizeLine (g : Graph) (kept : KeptIndexes) (via : Via) (line : List ℕ) : Type 0 where
+  -- whether two nodes are in one block
   pub test : ℕ → ℕ → Bool
+  -- the blocks are those of the index
   pub shows : ShowsIndex g kept via test
+  -- the line gives their number, and the number of pairs with an edge from the one to the other
   pub line_is : line ≡ size_line via (block_total (shape_of g) test) (adjacent_total (shape_of g) test)
 
 -- what is listed of the size of an index: its line if it is kept, else nothing

@@ -33,7 +33,9 @@ line_at texts p n = if is_first (shape_of_blocks texts p) (together p.block_of) 
 
 -- The summary is one of the graph, and its blocks are the classes of the nodes by the test.
 pub record IsSummaryOf (g : Graph) (r : ℕ → ℕ → Bool) (q : Quotient) : Type 0 where
+  -- blocks have members, with their labels, and supports are the numbers of edges
   pub fits : ViewFits g (view_of q)
+  -- two nodes share a block exactly where the test passes them
   pub agrees : Agrees (shape_of g) q.blocks.block_of (λ u v. IsTrue (r u v))
 
 -- The text lists the blocks of the relation: whatever graph and relation the summary is of, if these are the texts

@@ -7,7 +7,10 @@ use Rattle.label_graph.specs.GraphViews.{label_number}
 -- Nodes that have come are in blocks with their labels, those that have gone are in none, and all others are where they
 -- were.
 pub record HaveNodesMoved (g2 : Graph) (base block : List (Option ℕ)) (labels : ℕ → Option ℕ) (came gone : List ℕ) : Type 0 where
+  -- each node that has come is in a block with its label
   pub joined : (n : ℕ) → IsTrue (has came n)
       → (b : ℕ) × (d : ℕ) × (at block n ≡ Some b) × (labels b ≡ Some d) × (label_number g2 n ≡ Some d)
+  -- each that has gone is in none
   pub left : (n : ℕ) → IsTrue (has gone n) → at block n ≡ None
+  -- each other node is where it was
   pub others : (n : ℕ) → IsFalse (has came n) → IsFalse (has gone n) → at block n ≡ at base n

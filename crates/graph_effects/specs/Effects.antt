@@ -17,7 +17,9 @@ has_pair pairs u v = list_any (same_pair (u, v)) pairs
 
 -- the list has just the pairs that pass, each once
 pub record ListsPairs (p : ℕ → ℕ → Bool) (pairs : List (ℕ × ℕ)) : Type 0 where
+  -- no pair is listed twice
   pub once : IsDistinct same_pair pairs
+  -- a pair is listed exactly where it passes
   pub members : (u v : ℕ) → has_pair pairs u v ≡ p u v
 
 pub record EffectLists : Type 0 where

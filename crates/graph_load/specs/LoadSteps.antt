@@ -88,9 +88,12 @@ LoadsWholeFile limits files name new = (triples : List (Triple × ℕ)) × Holds
 
 -- the reader has the limits of a graph file, and can read on
 pub record CanRead (r : ReaderState) (is_open : Bool) : Type 0 where
+  -- no read has failed
   pub ready : r.failed ≡ false
+  -- the limits are those on a line and on a graph file
   pub line_limit : r.line_limit ≡ LINE_BYTES
   pub text_limit : r.text_limit ≡ GRAPH_BYTES
+  -- a file is open
   pub opened : IsTrue is_open
 
 -- a fact of the reader where there may be more lines
@@ -154,18 +157,28 @@ IsNearer r q = (r.taken < q.taken) × (q.taken ≤ GRAPH_BYTES)
 -- give what is left of the open file, whether one is open, the files, and the count of faults.
 pub record ReadsOn {S : Type 0} (left : S → Option (List ℕ)) (is_open : S → Bool) (files : S → Option (List File)) (faults : S → ℕ)
     (r q : ReaderState) (waited waits : List Waiting) (old new : S) (result : Result Next LoadError) : Type 0 where
+  -- whatever outcome follows from the triples that wait now and the text that is left, followed from those before
   pub reads : IfOk result (λ next. ReadsLines r waited (stream r (left old)) next q waits (stream q (left new)))
+  -- if there may be more lines, the reader can read them
   pub can : IfOk result (λ next. OnLines next (CanRead q (is_open new)))
+  -- and more of the text was taken, within the limit
   pub nearer : IfOk result (λ next. OnLines next (IsNearer r q))
+  -- an error tells nothing of the text
   pub none : IfErr result (TellsOutcome {X = LoadState} (λ _. ⊥))
+  -- a file that is read on is never missing
   pub found : result ≢ Err error.Missing
+  -- the files stay
   pub same : files new ≡ files old
+  -- a fault comes only if the count rose or stands at its last value
   pub fault : IsErrOf result error.Fault → MayHaveRisen (faults old) (faults new)
+  -- without one the count is as before
   pub no_fault : result ≢ Err error.Fault → faults new ≡ faults old
 
 -- the triples that waited are loaded
 pub record AreLoaded (limits : Limits) (waited : List Waiting) (old new : Loader) : Type 0 where
+  -- what holds of each loader holds of this one
   pub sound : IsSoundLoader new
+  -- by the definition of the load, what the loader knew and the triples that waited lead to what it knows now
   pub does : (triples : List (Triple × ℕ)) → Holds old triples
       → (more : List (Triple × ℕ)) × Holds new more × (with_all limits waited (load_state old triples) ≡ Ok (load_state new more))
 

@@ -46,9 +46,13 @@ Holds r triples = (t : Triple) → triple_number triples t ≡ number_known r t
 
 -- what each loader keeps
 pub record IsSoundLoader (r : Loader) : Type 0 where
+  -- nothing is reserved in the graph
   pub reserved : r.graph.reserved ≡ none_reserved
+  -- there are no more terms than nodes
   pub terms : length r.terms ≤ length r.graph.graph.allocated
+  -- nor predicates
   pub predicates : length r.predicates ≤ length r.graph.graph.allocated
+  -- the places of each known triple are those of a term, a predicate and a term
   pub known : AreKeysIn r.terms r.predicates r.known
 
 -- nothing is taken out of a table, and no triple is known that wasn't
@@ -62,8 +66,11 @@ pub record Grows (old new : Loader) : Type 0 where
 
 -- a step leads from the one loader to the other
 pub record LoaderStep (step : LoadState → Result LoadState Refusal) (old new : Loader) : Type 0 where
+  -- the step makes of the one state the other, whatever the triples
   pub does : (triples : List (Triple × ℕ)) → step (load_state old triples) ≡ Ok (load_state new triples)
+  -- what holds of each loader holds of this one
   pub sound : IsSoundLoader new
+  -- its tables have what they had, and no further triple is known
   pub grows : Grows old new
 
 -- a step is refused
@@ -72,7 +79,9 @@ IsStopped step r = (triples : List (Triple × ℕ)) → (refusal : Refusal) × (
 
 -- the triple is loaded: it was, or its nodes and edges are added
 pub record IsTaken (limits : Limits) (t : Triple) (old new : Loader) : Type 0 where
+  -- what holds of each loader holds of this one
   pub sound : IsSoundLoader new
+  -- by the definition of the load, what the loader knew and this triple lead to what it knows now
   pub does : (triples : List (Triple × ℕ)) → Holds old triples
       → (more : List (Triple × ℕ)) × Holds new more × (with_triple limits t (load_state old triples) ≡ Ok (load_state new more))
 

@@ -38,6 +38,7 @@ outcome_of (limit n) = limit n
 
 -- how far a file is loaded
 pub record Place : Type 0 where
+  -- what is loaded
   pub state : LoadState
   -- the lines that were taken, and their bytes with their ends
   pub lines : ℕ

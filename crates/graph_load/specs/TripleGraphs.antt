@@ -15,6 +15,7 @@ use Rattle.triple_names.specs.Items.{same_triple, term_label, predicate_label}
 use Rattle.triple_names.specs.Names.{Names}
 
 pub record LoadState : Type 0 where
+  -- the graph of the triples that were taken
   pub graph : Graph
   -- each term that is a node, with its number
   pub terms : List (Term × ℕ)

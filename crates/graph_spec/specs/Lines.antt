@@ -3,7 +3,9 @@ use Rattle.std.specs.Prelude.{ℕ, ◌==◌, ◌≢◌, if◌then◌else◌, Lis
 
 -- a line, and the bytes that end it
 pub record Line : Type 0 where
+  -- the line without its end
   pub text : List ℕ
+  -- LF, CR LF, CR, or nothing
   pub end : List ℕ
 
 -- the lines, with the byte put before the first

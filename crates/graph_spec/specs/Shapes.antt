@@ -21,8 +21,11 @@ IsChild s c n = IsTrue (s.edge n c)
 
 -- the nodes are below the size, and edges lead from nodes to nodes
 pub record IsShape (s : Shape) : Type 0 where
+  -- nodes are below the size
   pub below : (n : ℕ) → IsNode s n → n < s.size
+  -- an edge begins at a node
   pub from : (u v : ℕ) → IsTrue (s.edge u v) → IsNode s u
+  -- and ends at one
   pub onto : (u v : ℕ) → IsTrue (s.edge u v) → IsNode s v
 
 -- the live nodes of a graph

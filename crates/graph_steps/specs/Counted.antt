@@ -18,18 +18,28 @@ touching g u = set.len (set.retain g.edges (touches u))
 
 -- no fewer than there are, and just as many where they are counted
 pub record AreCounts (exact : Exact) (c : Counts) (g : Graph) : Type 0 where
+  -- the number of node numbers
   pub created : c.created ≡ length g.allocated
+  -- no fewer edges than there are
   pub edges : set.len g.edges ≤ c.edges
+  -- no fewer labels than were seen
   pub labels : length g.seen ≤ c.labels
+  -- just as many edges, where they are counted
   pub edges_are : IsTrue exact.edges → c.edges ≡ set.len g.edges
+  -- just as many labels, where they are counted
   pub labels_are : IsTrue exact.labels → c.labels ≡ length g.seen
 
 -- the step is accepted
 pub record IsTaken (exact : Exact) (c : Counts) (s : Step) (g : Graph) (limits : Limits) (t : Taken) : Type 0 where
+  -- the step is accepted
   pub accepted : apply_step s g limits ≡ Ok (made s g)
+  -- what it names is there
   pub can : CanMake s g
+  -- it alters the graph exactly if it isn't idle
   pub alters : t.alters ≡ not (is_idle s g)
+  -- the counts are those of the graph that it leaves
   pub counts : AreCounts exact t.counts (made s g)
+  -- of edges and of labels at most one more is counted
   pub edges_more : t.counts.edges ≤ c.edges + 1
   pub labels_more : t.counts.labels ≤ c.labels + 1
 

@@ -25,22 +25,30 @@ nowhere = 2 ^ 64 - 1
 
 -- no step from one place on and before another names the node, and the one there does, if that is a place at all
 pub record IsAhead (n : ℕ) (c : List Step) (from place : ℕ) : Type 0 where
+  -- no step before the place names the node
   pub between : (k : ℕ) → from ≤ k → k < place → names_at c k n ≡ false
+  -- the one there does, or it is no place
   pub there : (names_at c place n ≡ true) ⊎ (place ≡ nowhere)
 
 -- the place is that of the first step from a place on that names the node, and nowhere if none does
 pub record IsLater (n : ℕ) (c : List Step) (from place : ℕ) : Type 0 where
+  -- the place isn't before the one from which it is sought
   pub ordered : from ≤ place
+  -- it is the first of a step that names the node
   pub ahead : IsAhead n c from place
 
 -- the place is that of the last step that names the node, and nowhere if none does
 pub record IsLast (n : ℕ) (c : List Step) (place : ℕ) : Type 0 where
+  -- a step that names the node is at this place or before it, and the one there names it
   pub last : (k : ℕ) → names_at c k n ≡ true → (k ≤ place) × (names_at c place n ≡ true)
+  -- the one there names it, or it is no place
   pub there : (names_at c place n ≡ true) ⊎ (place ≡ nowhere)
 
 -- the place is that of the first step that takes the node away, and nowhere if none does
 pub record IsTaken (n : ℕ) (c : List Step) (place : ℕ) : Type 0 where
+  -- no step before the place takes the node away
   pub before : (k : ℕ) → k < place → takes_at c k n ≡ false
+  -- the one there does, or it is no place
   pub there : (takes_at c place n ≡ true) ⊎ (place ≡ nowhere)
 
 -- ---- the links of steps
@@ -74,7 +82,9 @@ with_link (s ∷ ss) (l ∷ ls) (suc i) n next = l ∷ with_link ss ls i n next
 
 -- each link leads to the next step behind its own that names the node
 pub record AreLinks (c : List Step) (links : List Links) : Type 0 where
+  -- each step has links
   pub count : length links ≡ length c
+  -- that of a node which the step names leads to the next step that names it
   pub next : (i n : ℕ) → names_at c i n ≡ true → IsLater n c (i + 1) (link_at c links i n)
 
 -- ---- the first step that names a node, the last, and the first that takes it away
@@ -96,19 +106,27 @@ taken_at ends n = (ends_at ends n).taken
 
 -- of each node
 pub record AreNoted (c : List Step) (ends : List (ℕ × Ends)) : Type 0 where
+  -- the first step that names it
   pub first : (n : ℕ) → IsLater n c 0 (first_at ends n)
+  -- the last step that does
   pub last : (n : ℕ) → IsLast n c (last_at ends n)
+  -- the first one that takes it away
   pub taken : (n : ℕ) → IsTaken n c (taken_at ends n)
 
 -- of a change of several steps; of one of fewer nothing is noted
 pub record AreEnds (c : List Step) (ends : List (ℕ × Ends)) : Type 0 where
+  -- of a change of two steps or more the ends of each node are noted
   pub each : 1 < length c → AreNoted c ends
+  -- of a shorter one none are
   pub none : length c ≤ 1 → ends ≡ []
 
 -- what a change keeps beside its steps
 pub record AreKept (c : List Step) (links : List Links) (ends : List (ℕ × Ends)) (places : List ℕ) : Type 0 where
+  -- the steps are linked
   pub linked : AreLinks c links
+  -- the first and the last step of each node are noted
   pub noted : AreEnds c ends
+  -- the places are those of the steps that add nodes
   pub placed : places ≡ node_places c
 
 -- ---- one step more

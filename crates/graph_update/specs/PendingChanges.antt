@@ -36,7 +36,9 @@ is_added g g2 n = not (nat_lt n (length g.allocated)) && nat_lt n (length g2.all
 
 -- The labels that will be seen are the first entries of the table: those that the steps bring lie ahead, in their order.
 pub record AreAhead (c : List Step) (g : Graph) (table : LabelTable) : Type 0 where
+  -- how many labels will have been seen
   pub count : ℕ
+  -- they are the first of the table
   pub seen : (after c g).seen ≡ take count (entries table)
 
 -- With an entry that was among the first ones as many are labels, and with the next one more.

@@ -70,10 +70,12 @@ shown_at side c n items = kept_at side c n items ++ new_at side c n
 
 -- the first of the neighbours that no step concerns, and those behind it
 pub record IsFirstKept (side : Side) (c : List Step) (n m : ℕ) (items rest : List ℕ) : Type 0 where
+  -- m is the first that stays, and those behind it that stay are those of the rest
   pub is : kept_at side c n items ≡ m ∷ kept_at side c n rest
 
 -- the first of the neighbours that come with the steps from a place on, and the place behind its step
 pub record IsFirstAdded (side : Side) (c : List Step) (n m from next : ℕ) : Type 0 where
+  -- m comes first, and the others that come are those of the steps behind it
   pub is : new_at side (drop from c) n ≡ m ∷ new_at side (drop next c) n
 
 -- a node that goes has no neighbours to show

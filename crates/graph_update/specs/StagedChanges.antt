@@ -73,10 +73,15 @@ HaveEffect (s ∷ ss) g = HasEffect s g × HaveEffect ss (made s g)
 
 -- these are the plans of the steps, what they need is reserved, and no more, and none of them is idle
 pub record ArePlanned (steps : List Step) (held : ReservedGraph) (plans : List Plan) : Type 0 where
+  -- there is a plan for each step, in their order
   pub plans_are : plans ≡ map plan_of steps
+  -- just the labels of new nodes are reserved
   pub labels : held.reserved.labels ≡ needed_labels steps
+  -- just the edges that the steps add
   pub pairs : held.reserved.pairs ≡ needed_pairs steps
+  -- just the labels that nodes get instead of theirs
   pub relabels : held.reserved.relabels ≡ needed_relabels steps
+  -- no step is idle at its place
   pub effect : HaveEffect steps held.graph
 
 -- what is planned can be made with what is reserved
@@ -97,8 +102,11 @@ IsMadeBy (Relabel u t) old new = new ≡ record { graph = labelled old.graph u t
 
 -- edges at the node are gone, and all else is as it was
 pub record LosesEdgesAt (u : ℕ) (old new : ReservedGraph) : Type 0 where
+  -- without the node the graphs are the same
   pub rest : without_node new.graph u ≡ without_node old.graph u
+  -- the node is live exactly if it was
   pub live : is_live new.graph u ≡ is_live old.graph u
+  -- what is reserved stays
   pub reserved : new.reserved ≡ old.reserved
 
 -- the numbers that it allocates

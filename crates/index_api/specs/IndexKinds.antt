@@ -14,6 +14,7 @@ use Rattle.index_api.specs.declared.kinds.Via.TheVariants.{Data, A, One, Fb, B}
 use Rattle.index_api.specs.Meanings.{Meaning, blocks_in}
 
 pub record KeptIndexes : Type 0 where
+  -- the kinds of the indexes that are kept
   pub kinds : List Kind
   -- the highest level of the families
   pub k : ℕ

@@ -13,6 +13,7 @@ use Rattle.change_spec.specs.Steps.{Step, after}
 use Rattle.change_spec.specs.NextOne.{OneStep}
 
 pub record Meaning : Type 0 where
+  -- the kind of the index
   pub kind : Kind
   -- the view of each level, none where it isn't computed
   pub views : List (Option View)

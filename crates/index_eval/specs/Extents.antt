@@ -10,6 +10,9 @@ is_in_blocks blocks (Some b) = has blocks b
 
 -- the nodes are those whose block has the property, each once, in the order of their numbers
 pub record AreOfBlocks (block : List (Option ℕ)) (P : ℕ → Type 0) (nodes : List ℕ) : Type 0 where
+  -- the nodes rise
   pub rising : IsStrictlyIncreasing nodes
+  -- each is in a block that has the property
   pub sound : (n : ℕ) → IsTrue (has nodes n) → (b : ℕ) × (at block n ≡ Some b) × P b
+  -- each node of such a block is there
   pub complete : (n b : ℕ) → at block n ≡ Some b → P b → IsTrue (has nodes n)

@@ -42,12 +42,19 @@ FitDue (Ranks m n) live views = HaveRanks live views m
 
 -- the numbers, the edges, and the ranks of the last view, are fewer than 2^32 with those that are to come
 pub record IsDraft (r : Reading) : Type 0 where
+  -- the highest level is at most 8
   pub level : r.k ≤ 8
+  -- the numbers are fewer than 2^32, with those that are to come
   pub few_nodes : length r.allocated + nodes_left r.due ≤ 4294967295
+  -- so are the ranks of the last view
   pub few_ranks : length (last_ranks r.views) + ranks_left r.due ≤ 4294967295
+  -- so are the edges
   pub few_edges : length r.pairs + edges_left r.due ≤ 4294967295
+  -- there are no more views than may stand up to the last one
   pub few_views : length r.views ≤ most_views (last_via r.views)
+  -- the edges are as they may be read
   pub edges : AreReadEdges r.allocated r.pairs
+  -- the views have a rank for each live node, but for those that are due
   pub views : FitDue r.due (live_in r.allocated) r.views
 
 -- what was read is stored as its parts

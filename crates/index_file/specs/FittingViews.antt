@@ -10,7 +10,9 @@ use Rattle.index_file.specs.SavedFiles.{SavedFile, SavedView}
 
 -- Stable, and no two blocks can be merged. A graph with cycles may have several such partitions.
 pub record IsStableMinimal (s : Shape) (block : List (Option ℕ)) : Type 0 where
+  -- nodes of one block have one label, and parents in the same blocks
   pub stable : Stable s block
+  -- no two blocks can be merged
   pub minimal : Minimal s block
 
 -- the partition is one of the index

@@ -16,15 +16,23 @@ after_digits text = drop (prefix_len is_ascii_digit text) text
 
 -- r is read of the one number of which P holds
 pub record IsFound (P : ℕ → Type 0) (r : ℕ) : Type 0 where
+  -- the number of which P holds
   pub number : ℕ
+  -- it holds of this one
   pub holds : P number
+  -- and of no other
   pub only : (n : ℕ) → P n → n ≡ number
+  -- r is this number, or 10^18 where it is past that
   pub is : r ≡ saturated number
 
 -- the two are read of the one pair of numbers of which P holds
 pub record AreFound (P : ℕ → ℕ → Type 0) (p : ℕ × ℕ) : Type 0 where
+  -- the pair of which P holds
   pub first : ℕ
   pub second : ℕ
+  -- it holds of this one
   pub hold : P first second
+  -- and of no other
   pub only : (n m : ℕ) → P n m → (n ≡ first) × (m ≡ second)
+  -- the two are these numbers, each or 10^18 where it is past that
   pub are : (p.0 ≡ saturated first) × (p.1 ≡ saturated second)

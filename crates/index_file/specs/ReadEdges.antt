@@ -13,5 +13,7 @@ JoinLive allocated [] = ⊤
 JoinLive allocated (e ∷ es) = IsTrue (is_live_in allocated e.0) × IsTrue (is_live_in allocated e.1) × JoinLive allocated es
 
 pub record AreReadEdges (allocated : List (Option (List ℕ))) (pairs : List (ℕ × ℕ)) : Type 0 where
+  -- the pairs rise
   pub rise : RiseBehind None pairs
+  -- each joins live nodes
   pub live : JoinLive allocated pairs

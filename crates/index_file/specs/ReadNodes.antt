@@ -10,7 +10,11 @@ texts_at texts numbers = map (option_and_then (slice_get texts)) numbers
 
 -- the labels are those of the nodes, in the order of first use, and so many nodes are live
 pub record AreReadNodes (texts : List (List ℕ)) (numbers : List (Option ℕ)) (live : ℕ) : Type 0 where
+  -- the labels are those of the nodes, in the order of first use
   pub seen : texts ≡ seen_of (texts_at texts numbers)
+  -- each number of a label has its text
   pub below : (n l : ℕ) → at numbers n ≡ Some l → l < length texts
+  -- so many nodes have a label
   pub live_is : live ≡ live_in (texts_at texts numbers)
+  -- which is no more than there are numbers
   pub few : live ≤ length numbers

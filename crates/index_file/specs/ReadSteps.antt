@@ -52,11 +52,16 @@ ReadsRest limits r left reading o = ReadsAhead limits (stream r left) (place r r
 
 -- the reader has the limits of a graph file, can read on, and took a byte or more with each line
 pub record CanRead (r : ReaderState) (is_open : Bool) : Type 0 where
+  -- no read has failed
   pub ready : r.failed ≡ false
+  -- the limits are those on a line and on a graph file
   pub line_limit : r.line_limit ≡ LINE_BYTES
   pub text_limit : r.text_limit ≡ GRAPH_BYTES
+  -- a byte or more was taken with each line
   pub counted : r.number ≤ r.taken
+  -- the bytes taken are within the limit
   pub within : r.taken ≤ GRAPH_BYTES
+  -- a file is open
   pub opened : IsTrue is_open
 
 -- What became of a line. True: it was taken, and what is read of the text behind it is read of the text. False: the
@@ -69,11 +74,19 @@ GoesOn limits before p after q false = (q.reading ≡ p.reading) × (q.lines ≡
 -- is left of the open file, whether one is open, the files, and the count of faults.
 pub record ReadsOn {S : Type 0} (limits : Limits) (left : S → Option (List ℕ)) (is_open : S → Bool) (files : S → Option (List File)) (faults : S → ℕ)
     (r q : ReaderState) (read reads : Reading) (old new : S) (result : Result Bool SavedError) : Type 0 where
+  -- the call read on, or came to the end of the text
   pub goes : IfOk result (GoesOn limits (stream r (left old)) (place r read) (stream q (left new)) (place q reads))
+  -- if there may be more, the reader can read it
   pub can : IfOk result (λ more. IsTrue more → CanRead q (is_open new))
+  -- and took at least a byte, within the limit
   pub nearer : IfOk result (λ more. IsTrue more → (r.taken < q.taken) × (q.taken ≤ GRAPH_BYTES))
+  -- an error tells what the rest of the text comes to
   pub refused : IfErr result (TellsOutcome (ReadsAhead limits (stream r (left old)) (place r read)))
+  -- a file that is read on is never missing
   pub found : result ≢ Err error.Missing
+  -- the files stay
   pub same : files new ≡ files old
+  -- a fault comes only if the count rose or stands at its last value
   pub fault : IsErrOf result error.Fault → MayHaveRisen (faults old) (faults new)
+  -- without one the count is as before
   pub no_fault : result ≢ Err error.Fault → faults new ≡ faults old

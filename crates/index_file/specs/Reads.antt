@@ -33,6 +33,7 @@ pub data Outcome : Type 0 where
 
 -- how far a file is read
 pub record Place : Type 0 where
+  -- what was read
   pub reading : Reading
   -- the lines that were taken, and their bytes with their ends
   pub lines : ℕ
@@ -50,9 +51,13 @@ IsWithinFile p l = (length l.text ≤ LINE_BYTES) × (p.bytes + length l.text + 
 
 -- the line is taken, and leaves this
 pub record IsTaken (limits : Limits) (line : List ℕ) (old new : Reading) : Type 0 where
+  -- what the line says
   pub statement : Statement
+  -- the line says this
   pub says : Says line statement
+  -- it passes no limit
   pub within : IsFalse (exceeds limits statement old)
+  -- it may stand here, and leads to this
   pub next : next_reading statement old ≡ Some new
 
 -- the line passes a limit

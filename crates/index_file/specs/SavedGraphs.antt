@@ -16,29 +16,44 @@ saved_file allocated children k views = record { graph = graph_of allocated (edg
 
 -- the lists of neighbours are those of the graph
 pub record AreNeighbours (g : Graph) (children parents : List (List ℕ)) : Type 0 where
+  -- there is a list for each number, on either side
   pub children_all : length children ≡ length g.allocated
   pub parents_all : length parents ≡ length g.allocated
+  -- the children of a number are those to which an edge leads, each once
   pub child_lists : (n : ℕ) → n < length g.allocated → Lists (has_edge g n) (row children n)
+  -- its parents are those from which an edge leads here, each once
   pub parent_lists : (n : ℕ) → n < length g.allocated → Lists (λ p. has_edge g p n) (row parents n)
 
 -- for each number how many nodes are live below it
 pub record ArePlaces (allocated : List (Option (List ℕ))) (places : List ℕ) : Type 0 where
+  -- there is an entry for each number
   pub all : length places ≡ length allocated
+  -- it says how many nodes are live below
   pub each : (n : ℕ) → n < length allocated → get_or places n 0 ≡ live_in (take n allocated)
 
 -- the places of the first n numbers, and how many of these are live
 pub record ArePlacesBelow (allocated : List (Option (List ℕ))) (n live : ℕ) (places : List ℕ) : Type 0 where
+  -- there is a place for each of the first n numbers
   pub all : length places ≡ n
+  -- there are so many numbers
   pub within : n ≤ length allocated
+  -- the place of a number is how many are live below it
   pub each : (m : ℕ) → m < n → get_or places m 0 ≡ live_in (take m allocated)
+  -- so many of the first n are live
   pub live_is : live ≡ live_in (take n allocated)
 
 pub record IsSaved (allocated : List (Option (List ℕ))) (children parents : List (List ℕ)) (views : List RankedView) (places : List ℕ) : Type 0 where
+  -- there are fewer than 2^32 numbers
   pub few_nodes : length allocated ≤ 4294967295
+  -- there are at most 20 views
   pub few_views : length views ≤ 20
+  -- the graph is one
   pub graph : IsGraph (graph_of allocated (edges_in 0 children))
+  -- children and parents are listed as its edges say
   pub neighbours : AreNeighbours (graph_of allocated (edges_in 0 children)) children parents
+  -- each view has a rank for each live node
   pub ranks : HaveRanks (live_in allocated) views 0
+  -- the places are the counts of live nodes below
   pub placed : ArePlaces allocated places
 
 -- the index of the view at a place, and its blocks

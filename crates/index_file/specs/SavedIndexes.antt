@@ -10,8 +10,11 @@ use Rattle.index_file.specs.WrittenFiles.{head_text, view_text}
 
 -- the lines are the view of the index, by what it relates
 pub record IsViewOf (g : Graph) (kept : KeptIndexes) (via : Via) (lines : List ℕ) : Type 0 where
+  -- whether two nodes are in one block
   pub test : ℕ → ℕ → Bool
+  -- the blocks are those of the index
   pub shows : ShowsIndex g kept via test
+  -- the lines give the rank of each node's block
   pub lines_are : lines ≡ view_text (shape_of g) test via
 
 -- what is saved of an index: its view if it is kept, else nothing

@@ -20,7 +20,9 @@ use Rattle.index_file.specs.WrittenFiles.{head_text, view_text, rank_of}
 
 -- a view to be written: its index, and whether two nodes are in one of its blocks
 pub record TestedView : Type 0 where
+  -- the index
   pub via : Via
+  -- whether two nodes are in one block
   pub test : ℕ → ℕ → Bool
 
 abbrev pub views_text : Shape → List TestedView → List ℕ
@@ -68,37 +70,56 @@ indexes_of kinds k =
 
 -- the test is an equivalence on the nodes
 pub record IsEquivalence (s : Shape) (r : ℕ → ℕ → Bool) : Type 0 where
+  -- each node is with itself
   pub reflexive : (u : ℕ) → IsNode s u → IsTrue (r u u)
+  -- if u is with v, v is with u
   pub symmetric : (u v : ℕ) → IsNode s u → IsNode s v → IsTrue (r u v) → IsTrue (r v u)
+  -- if u is with v and v with w, u is with w
   pub transitive : (u v w : ℕ) → IsNode s u → IsNode s v → IsNode s w → IsTrue (r u v) → IsTrue (r v w) → IsTrue (r u w)
 
 -- what makes the text an index file
 pub record IsWritable (g : Graph) (k : ℕ) (views : List TestedView) : Type 0 where
+  -- levels go up to at most 8
   pub level : k ≤ 8
+  -- the label of each node is spelled as it is
   pub labels : HasLabels g
+  -- some kinds of indexes
   pub kinds : List Kind
+  -- the views are those of all indexes of these kinds with levels up to k, as they are listed
   pub indexes : map (λ v. v.via) views ≡ indexes_of kinds k
+  -- each test is an equivalence on the nodes
   pub tests : (j : ℕ) (v : TestedView) → slice_get views j ≡ Some v → IsEquivalence (shape_of g) v.test
 
 -- a view of an index that is kept, with its relation
 pub record IsKeptView (g : Graph) (kept : KeptIndexes) (v : SavedView) : Type 0 where
+  -- the index is kept
   pub there : is_kept kept v.via ≡ true
+  -- two nodes share a block exactly where it relates them
   pub agrees : Agrees (shape_of g) v.block_of (Relates g kept v.via)
 
 -- What the file of a graph and of the indexes that are kept of it holds: the graph, the highest level, and for each index that
 -- is kept, in the order in which they are listed, one view, which has its relation.
 pub record IsFileOf (g : Graph) (kept : KeptIndexes) (file : SavedFile) : Type 0 where
+  -- the graph is this one, as a file holds it
   pub graph : file.graph ≡ saved_graph g
+  -- the highest level is that of the indexes
   pub level : file.k ≡ kept.k
+  -- there is one view for each index that is kept, as they are listed
   pub indexes : map (λ v. v.via) file.views ≡ indexes_of kept.kinds kept.k
+  -- each has the relation of its index
   pub views : (j : ℕ) (v : SavedView) → slice_get file.views j ≡ Some v → IsKeptView g kept v
 
 -- what holds of a graph and of the indexes that are kept of it, so that they can be saved
 pub record CanBeSaved (g : Graph) (kept : KeptIndexes) : Type 0 where
+  -- the graph is one
   pub graph : IsGraph g
+  -- fewer than 2^32 numbers were allocated
   pub numbers : length g.allocated ≤ 4294967295
+  -- levels go up to at most 8
   pub level : kept.k ≤ 8
+  -- the label of each node is spelled as it is
   pub labels : HasLabels g
+  -- the 1-index, if it is kept, is stable, and no two of its blocks can be merged
   pub one : is_kept kept One ≡ true → IsStableMinimal (shape_of g) kept.one
 
 -- The text is the index file of the graph and of the indexes that are kept: it holds these and nothing else, it is read as that, unless

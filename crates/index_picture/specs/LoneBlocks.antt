@@ -22,7 +22,11 @@ pub record IsLone (g : Graph) (p : Partition) : Type 0 where
 
 -- The same of the nodes below n, in lists.
 pub record AreLoneBelow (g : Graph) (n : ℕ) (block : List (Option ℕ)) (labels : List ℕ) : Type 0 where
+  -- there is an entry for each number below n
   pub all : length block ≡ n
+  -- there are as many blocks as live nodes below n
   pub count : length labels ≡ own_block g n
+  -- each live node has a block of its own
   pub blocks : (m : ℕ) → m < n → at block m ≡ lone_block g m
+  -- its label is that of the node
   pub labelled : (m l : ℕ) → m < n → label_number g m ≡ Some l → slice_get labels (own_block g m) ≡ Some l

@@ -20,6 +20,7 @@ use Rattle.index_api.specs.IndexKinds.{is_kind}
 use Rattle.index_api.specs.Meanings.{Meaning}
 
 pub record KeptFamily : Type 0 where
+  -- the levels as they are
   pub base : List KeyedQuotient
   -- what a change will make of the family, where one is prepared
   pub staged : Option (List KeyedChanges)
@@ -33,8 +34,11 @@ kept_code =
 -- what the draft needs to be settled in its base: reserved capacity, and that it shows a family whose keys are as its
 -- supports say
 pub record CanSettle (sides : Sides) (f : List KeyedQuotient) (d : List KeyedChanges) : Type 0 where
+  -- each level has capacity reserved for what the draft shows
   pub reserved : HaveReserved f d
+  -- the draft shows a family
   pub shows : ShowsFamily f d
+  -- the key of a block is as the level below and the supports say
   pub keys : ShowsKeys sides f d
 
 -- a draft that is staged can be settled
@@ -44,7 +48,9 @@ IsKeptDraft sides f (Some d) = CanSettle sides f d
 
 -- nothing is drafted over the family
 pub record IsEmptyOver (f : List KeyedQuotient) (d : List KeyedChanges) : Type 0 where
+  -- the draft is over the family
   pub over : AreOver f d
+  -- nothing is drafted at any level
   pub empty : AreEmpty d
 
 -- in a spare draft nothing is drafted

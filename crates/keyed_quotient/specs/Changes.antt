@@ -12,6 +12,7 @@ use Rattle.quotient_draft.specs.ReservedCapacity.{HasRoomFor}
 use Rattle.keyed_quotient.specs.KeyedQuotients.{KeyedQuotient, key_at, AreKeyed}
 
 pub record KeyedChanges : Type 0 where
+  -- what is drafted over the quotient
   pub drafted : Drafted
   -- the number and the key of each further block, in the order in which they were made
   pub keys : List (ℕ × List ℕ)

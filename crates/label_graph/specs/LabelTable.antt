@@ -6,7 +6,9 @@ use Rattle.graph_spec.specs.Graphs.{is_seen}
 
 -- the labels, each once, and the texts ahead of them, for which capacity is reserved
 pub record LabelTable : Type 0 where
+  -- the labels that were seen, by their numbers
   pub texts : List (List ℕ)
+  -- the texts for which capacity is reserved
   pub ahead : List (List ℕ)
 
 -- the labels, and then the texts ahead

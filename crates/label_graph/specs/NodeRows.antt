@@ -23,7 +23,9 @@ segments_of (r ∷ rs) = r.children ∷ r.parents ∷ segments_of rs
 
 -- each list that takes cells lies among them, apart from the others
 pub record AreHeld (cells : List ℕ) (rows : List Row) : Type 0 where
+  -- each list that takes cells lies among them
   pub within : (i : ℕ) (s : Segment) → slice_get (segments_of rows) i ≡ Some s → LiesWithin (length cells) s
+  -- no cell belongs to two
   pub apart : (i j : ℕ) (s t : Segment) → i ≢ j → slice_get (segments_of rows) i ≡ Some s
       → slice_get (segments_of rows) j ≡ Some t → IsApart s t
 
@@ -33,8 +35,11 @@ row_labels = map (λ r. r.label)
 
 -- What the rows keep: their lists lie apart, and the rows behind those that are shown have no labels.
 pub record AreRows (cells : List ℕ) (rows : List Row) (shown : ℕ) : Type 0 where
+  -- each list lies among the cells, apart from the others
   pub held : AreHeld cells rows
+  -- there is a row for each node that is shown
   pub within : shown ≤ length rows
+  -- the rows behind these have no labels
   pub spare : (n : ℕ) → shown ≤ n → number_at (row_labels rows) n ≡ None
 
 abbrev pub list_in : List ℕ → Segment → NeighbourList

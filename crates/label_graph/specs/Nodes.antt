@@ -8,18 +8,24 @@ use Rattle.graph_spec.specs.Members.{has}
 
 -- a list of neighbours, and how many fit with no more memory
 pub record NeighbourList : Type 0 where
+  -- the neighbours
   pub items : List ℕ
+  -- how many fit with no more memory
   pub capacity : ℕ
 
 -- a node: the number of its label, or none where it is gone, and its neighbours
 pub record Node : Type 0 where
+  -- the number of its label, none where it is gone
   pub label : Option ℕ
+  -- its neighbours, with their capacity
   pub children : NeighbourList
   pub parents : NeighbourList
 
 -- nodes, of which the first are shown; the others are for nodes to come
 pub record NodeTable : Type 0 where
+  -- all nodes, with those to come
   pub nodes : List Node
+  -- how many are shown
   pub shown : ℕ
 
 -- they are stored as their parts
@@ -93,45 +99,68 @@ IsKept shown nodes n = n < shown → IsLive shown nodes n
 
 -- g is a gone node, other than u
 pub record IsGoneBeside (shown : ℕ) (nodes : List Node) (u g : ℕ) : Type 0 where
+  -- it is a number that is shown
   pub given : g < shown
+  -- it isn't u
   pub other : g ≢ u
+  -- it has no label
   pub gone : number_at (labels_of shown nodes) g ≡ None
 
 -- the nodes that are shown are the same, none is lacking, and none that isn't gone has less reserved
 pub record SameNodes (shown : ℕ) (old new : List Node) : Type 0 where
+  -- there are no fewer nodes
   pub size : length old ≤ length new
+  -- those that are shown have the same labels
   pub labels : labels_of shown new ≡ labels_of shown old
+  -- each has the same children
   pub children : (w : ℕ) → children_of new w ≡ children_of old w
+  -- and the same parents
   pub parents : (w : ℕ) → parents_of new w ≡ parents_of old w
+  -- a node that isn't gone has no less capacity for either
   pub child_reserves : (w : ℕ) → IsKept shown old w → child_reserved old w ≤ child_reserved new w
   pub parent_reserves : (w : ℕ) → IsKept shown old w → parent_reserved old w ≤ parent_reserved new w
 
 -- that many more children of u and that many more parents of v fit
 pub record HasReserved (nodes : List Node) (u v children parents : ℕ) : Type 0 where
+  -- so many children more fit at u
   pub child : children ≤ child_reserved nodes u
+  -- so many parents more fit at v
   pub parent : parents ≤ parent_reserved nodes v
 
 -- no node has less reserved
 pub record KeepsReserved (old new : List Node) : Type 0 where
+  -- there are as many nodes
   pub size : length new ≡ length old
+  -- no node has less capacity for children
   pub child : (w : ℕ) → child_reserved old w ≤ child_reserved new w
+  -- nor for parents
   pub parent : (w : ℕ) → parent_reserved old w ≤ parent_reserved new w
 
 -- no node has less reserved, but that u has one child less and v one parent less
 pub record UsesReserved (old new : List Node) (u v : ℕ) : Type 0 where
+  -- there are as many nodes
   pub size : length new ≡ length old
+  -- no node has less capacity for children, but for one less at u
   pub child : (w : ℕ) → child_reserved old w ≤ child_reserved new w + (if nat_eq w u then 1 else 0)
+  -- nor for parents, but for one less at v
   pub parent : (w : ℕ) → parent_reserved old w ≤ parent_reserved new w + (if nat_eq w v then 1 else 0)
 
 -- the list has the others that it had, each once, and not that number
 pub record IsWithout (old new : List ℕ) (n : ℕ) : Type 0 where
+  -- no number stands twice
   pub once : IsDistinct nat_eq new
+  -- the list has what it had, but for n
   pub members : (m : ℕ) → has new m ≡ (not (nat_eq m n) && has old m)
 
 -- the nodes are the same, but that v isn't among the children of u, nor u among the parents of v
 pub record LacksEdge (shown : ℕ) (old new : List Node) (u v : ℕ) : Type 0 where
+  -- nodes have the same labels
   pub labels : labels_of shown new ≡ labels_of shown old
+  -- v is gone from the children of u
   pub child : IsWithout (children_of old u) (children_of new u) v
+  -- other nodes have the same children
   pub other_children : (w : ℕ) → w ≢ u → children_of new w ≡ children_of old w
+  -- u is gone from the parents of v
   pub parent : IsWithout (parents_of old v) (parents_of new v) u
+  -- other nodes have the same parents
   pub other_parents : (w : ℕ) → w ≢ v → parents_of new w ≡ parents_of old w

@@ -12,5 +12,7 @@ marked marks n on = slice_set marks (n % 1024) on
 
 -- no pair begins at a node whose mark isn't set, and none ends at one whose other mark isn't
 pub record AreMarked (begin end : List Bool) (pairs : List (ℕ × ℕ)) : Type 0 where
+  -- no pair begins at a node without the first mark
   pub begins : (w : ℕ) → is_marked begin w ≡ false → starting w pairs ≡ 0
+  -- none ends at a node without the second one
   pub ends : (w : ℕ) → is_marked end w ≡ false → ending w pairs ≡ 0

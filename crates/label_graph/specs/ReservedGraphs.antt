@@ -11,8 +11,11 @@ use Rattle.label_graph.specs.Nodes.{Node, labels_of, texts_of, edges_of}
 -- What can be done with no more memory: nodes with these labels added, in their order, edges added between these pairs of
 -- nodes, and nodes that there are given these labels, in any order.
 pub record Reservation : Type 0 where
+  -- the labels of nodes to come, in their order
   pub labels : List (List ℕ)
+  -- the ends of edges to come
   pub pairs : List (ℕ × ℕ)
+  -- the labels that nodes get instead of theirs
   pub relabels : List (List ℕ)
 
 abbrev pub none_reserved : Reservation

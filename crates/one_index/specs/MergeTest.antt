@@ -12,12 +12,16 @@ is_parent_of_one t c d x = if nat_eq x c || nat_eq x d then is_supported t c d |
 
 -- the parent blocks of c are parent blocks of d too, where the two count as one
 pub record IsCovered (q : Quotient) (c d : ℕ) : Type 0 where
+  -- a block with support to c has support to d too, where the two count as one
   pub each : (x : ℕ) → IsTrue (is_adjacent q x c) → IsTrue (is_parent_of_one q.supports c d x)
 
 -- two blocks have one label, and the same parent blocks where they count as one
 pub record CanMerge (q : Quotient) (a b : ℕ) : Type 0 where
+  -- both have one label
   pub label : at q.blocks.labels a ≡ at q.blocks.labels b
+  -- each parent block of a is one of b, where the two count as one
   pub there : IsCovered q a b
+  -- and the other way round
   pub back : IsCovered q b a
 
 -- a can't be merged with b, where b is a block with members
@@ -30,5 +34,6 @@ HasMergeable q a = (u : ℕ) × (v : ℕ) × (b : ℕ) × (a < b) × (at q.block
 
 -- a can be merged with no block behind it, where both have members
 pub record HasNoMergeable (q : Quotient) (a : ℕ) : Type 0 where
+  -- no block with a greater number can be merged with it, if both have members
   pub none : (u v b : ℕ) → IsSome (at q.blocks.labels a) → IsSome (at q.blocks.labels b) → a < b → at q.blocks.block_of u ≡ Some a → at q.blocks.block_of v ≡ Some b
       → CanMerge q a b → ⊥

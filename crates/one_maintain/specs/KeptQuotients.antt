@@ -17,7 +17,9 @@ use Rattle.one_merge.specs.ParentlessBlocks.{ParentlessLists, CoversBase, Covers
 use Rattle.one_update.specs.OneDrafts.{IsSupported, most_steps}
 
 pub record KeptQuotient : Type 0 where
+  -- the 1-index as it is
   pub base : Quotient
+  -- what is drafted over it
   pub draft : Drafted
   -- whether the draft is what a change will make of the quotient
   pub staged : Bool
@@ -30,9 +32,13 @@ kept_code =
 
 -- what the draft needs to be settled in its base: reserved capacity, and members and supports that agree
 pub record CanSettle (q : Quotient) (d : Drafted) : Type 0 where
+  -- the draft is over this base
   pub over : IsOver q.blocks.block_of q.blocks.labels d
+  -- the base has capacity reserved for what the draft shows
   pub reserved : HasRoomFor q d
+  -- each block of the base has a member there
   pub inhabited : (b : ℕ) → IsSome (at q.blocks.labels b) → IsTrue (has_member q.blocks.block_of b)
+  -- a block without members as shown has no support, to others or from them
   pub from : (b c : ℕ) → has_member (shown_blocks q d) b ≡ false → shown_support q d b c ≡ 0
   pub onto : (b c : ℕ) → has_member (shown_blocks q d) b ≡ false → shown_support q d c b ≡ 0
 

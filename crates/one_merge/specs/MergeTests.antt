@@ -22,14 +22,19 @@ adjacent_merged adjacent a b d x = cond (nat_eq x a || nat_eq x b) (adjacent a d
 
 -- each parent block of c is one of d, where a and b count as one block
 pub record AreParentsSatisfied (adjacent : ℕ → ℕ → Bool) (a b c d : ℕ) : Type 0 where
+  -- a block with support to c has support to d too, where a and b count as one
   pub each : (x : ℕ) → IsTrue (adjacent x c) → IsTrue (adjacent_merged adjacent a b d x)
 
 -- Two blocks with members and of one label. Whatever the graph that is seen through the tables, they can be merged.
 pub record AreMergeable (block : List (Option ℕ)) (labels : ℕ → Option ℕ) (adjacent : ℕ → ℕ → Bool) (a b : ℕ) : Type 0 where
+  -- they are two blocks
   pub apart : a ≢ b
+  -- each of them has a member
   pub first : (n : ℕ) × (at block n ≡ Some a)
   pub second : (n : ℕ) × (at block n ≡ Some b)
+  -- both have one label
   pub label : labels a ≡ labels b
+  -- whatever the graph that is seen through the tables, the partition is stable once they are one block
   pub can : (s : Shape) → IsViewed s block labels adjacent → Mergeable s block a b
 
 -- Whatever the graph that is seen through the tables, the two blocks can't be merged.

@@ -40,7 +40,11 @@ merged_support a b support = with_row a b (with_column a b support)
 
 -- The supports are those of some graph with at most 2^30 edges, and each block with members has a label.
 pub record HasGraph (block : List (Option ℕ)) (labels : ℕ → Option ℕ) (support : ℕ → ℕ → ℕ) : Type 0 where
+  -- some graph
   pub graph : Graph
+  -- the support of a pair is the number of its edges from the one block to the other
   pub supports : AreEdgeCounts graph block support
+  -- it has at most 2^30 edges
   pub few : set.len graph.edges ≤ 2 ^ 30
+  -- a block with a member has a label
   pub live : (n b : ℕ) → at block n ≡ Some b → IsSome (labels b)

@@ -30,6 +30,7 @@ NotesAllParentless labels support parentless list =
 
 -- Each block to which no other has support is noted for its label. Others may be noted too.
 pub record CoversParentless (labels : ℕ → Option ℕ) (support : ℕ → ℕ → ℕ) (parentless : ParentlessLists) : Type 0 where
+  -- a block that has a label, and to which no other has support, is noted for that label
   pub each : (b label : ℕ) → labels b ≡ Some label → IsParentless support b → IsNoted parentless label b
 
 -- the parentless blocks of a quotient are noted

@@ -14,20 +14,21 @@ use Rattle.one_merge.specs.MergeTests.{shown_adjacent}
 abbrev pub AreShownMergeCandidates : Shape → Quotient → Drafted → (ℕ → Type 0) → Type 0
 AreShownMergeCandidates s q d among = AreMergeCandidates s (shown_blocks q d) among
 
--- whatever the graph: where of each two blocks that can be merged one was a candidate, one is now of this pair, or is
--- still a candidate
+-- whatever the graph: where the partition shown is stable, and of each two blocks that can be merged one was a candidate, one is now of
+-- this pair, or is still a candidate
 abbrev pub StayMergeCandidates : Quotient → Drafted → List ℕ → ℕ × ℕ → List ℕ → Type 0
 StayMergeCandidates q d merge_candidates pair merge_candidates2 =
     (s : Shape) → ShowsStablePartition s q d → AreShownMergeCandidates s q d (λ b. IsTrue (has merge_candidates b))
     → AreShownMergeCandidates s q d (λ b. ((b ≡ pair.0) ⊎ (b ≡ pair.1)) ⊎ IsTrue (has merge_candidates2 b))
 
--- whatever the graph: where of each two blocks that can be merged one was a candidate, no two can be
+-- whatever the graph: where the partition shown is stable, and of each two blocks that can be merged one was a candidate, no two can be
 abbrev pub NoTwoCanMerge : Quotient → Drafted → List ℕ → Type 0
 NoTwoCanMerge q d merge_candidates =
     (s : Shape) → ShowsStablePartition s q d → AreShownMergeCandidates s q d (λ b. IsTrue (has merge_candidates b))
     → AreShownMergeCandidates s q d (λ b. ⊥)
 
--- whatever the graph: where of each two blocks that can be merged one is a candidate, pairs were merged until no two could be
+-- whatever the graph: where the partition shown is stable, and of each two blocks that can be merged one is a candidate, pairs were
+-- merged until no two could be
 abbrev pub MergesToEnd : Quotient → Drafted → Drafted → List ℕ → Type 0
 MergesToEnd q d d2 merge_candidates =
     (s : Shape) → ShowsStablePartition s q d → AreShownMergeCandidates s q d (λ b. IsTrue (has merge_candidates b))
@@ -48,6 +49,9 @@ inhabited q d = count_below (length (shown_labels q d)) (has_member (shown_block
 -- After some merges: pairs were merged, the tables fit, and of each two blocks that can be merged one is among these.
 pub record IsMerging (s : Shape) (first block : List (Option ℕ)) (labels : ℕ → Option ℕ)
     (adjacent : ℕ → ℕ → Bool) (merge_candidates : List ℕ) : Type 0 where
+  -- pairs of blocks were merged, each of which could be when its turn came
   pub merges : Merges s first block
+  -- the tables fit the partition that is left, and it is stable
   pub viewed : IsViewed s block labels adjacent
+  -- of each two blocks that can be merged one is a candidate
   pub candidates_are : AreMergeCandidates s block (λ b. IsTrue (has merge_candidates b))

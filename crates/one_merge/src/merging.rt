@@ -112,10 +112,11 @@ fn merge_pairs(
     Ok(())
 }
 
-/// Merges blocks as shown until no two can be merged, where of any two that can be, one is among the merge candidates.
-/// `parentless` lists each parentless block of the base, and maybe others; those of the settled draft come to it. It skips
-/// numbers of no block, and blocks without members. The supports must be those of a graph with at most 2^30 edges, and
-/// blocks with members have labels. Where memory runs out, the draft may hold a part of this.
+/// Merges blocks as shown. If the partition shown is stable, with the right labels and supports, and of any two blocks
+/// that can be merged one is among the merge candidates, then no two can be merged afterwards. `parentless` lists each
+/// parentless block of the base, and maybe others; those of the settled draft come to it. It skips numbers of no block,
+/// and blocks without members. The supports must be those of a graph with at most 2^30 edges, and blocks with members
+/// have labels. Where memory runs out, the draft may hold a part of this.
 ///
 /// Of two blocks that are merged the one with fewer members and children is moved, or the one with far more drafted pairs
 /// onto it, most of which have no support; each block next to it is written once. A candidate is compared with another

@@ -14,7 +14,9 @@ is_in p b n = is_this b (at p n)
 
 -- the nodes are distinct, and for each block those that are in it are counted
 pub record AreCounted (p : List (Option ℕ)) (looked : List ℕ) (counts : List (ℕ × ℕ)) : Type 0 where
+  -- no node stands twice
   pub once : IsDistinct nat_eq looked
+  -- the count of a block is the number of these nodes in it
   pub each : (b : ℕ) → count_at counts b ≡ count_by (is_in p b) looked
 
 -- whether the block, if there is one, has not just one member

@@ -8,13 +8,18 @@ use Rattle.graph_update.specs.PendingChanges.{Pending, graph_after}
 
 -- the number is that of the node's key, over the partition
 pub record HasNumber (p : List (Option ℕ)) (neighbour_of : ℕ → ℕ → Bool) (keys : List (List ℕ)) (n k : ℕ) : Type 0 where
+  -- the key of the node
   pub key : List ℕ
+  -- it has this number
   pub found : slice_get keys k ≡ Some key
+  -- it is the node's, over the partition
   pub is : IsKey (at p) p neighbour_of n key
 
 -- each node of the first list has its number in the second one, and each key is that of some node
 pub record HaveNumbers (p : List (Option ℕ)) (neighbour_of : ℕ → ℕ → Bool) (keys : List (List ℕ)) (nodes numbers : List ℕ) : Type 0 where
+  -- each number is that of the key of its node
   pub each : (i : ℕ) → i < length numbers → HasNumber p neighbour_of keys (slice_index nodes i) (slice_index numbers i)
+  -- each key is that of some node
   pub some : (k : ℕ) → k < length keys → (i : ℕ) × (i < length numbers) × (slice_index numbers i ≡ k)
 
 -- whether an edge leads from one node to the other after the change

@@ -18,28 +18,44 @@ use Rattle.one_split.specs.NodeTargetBlocks.{AreBlocks, MembersHaveLabels, GoesI
 -- The draft shows a partition of the graph after the change, with labels and the numbers of edges; the nodes are there,
 -- each once; and what was made are blocks.
 pub record CanRound (a : Pending) (base : Quotient) (d : Drafted) (nodes new_blocks : List ℕ) : Type 0 where
+  -- the draft is over this base
   pub over : IsOver base.blocks.block_of base.blocks.labels d
+  -- the block of each node has a label
   pub live : MembersHaveLabels (shown_blocks base d) (at (shown_labels base d))
+  -- these are nodes of the graph after the change
   pub there : (n : ℕ) → IsTrue (has nodes n) → IsTrue (is_live (graph_after a) n)
+  -- that graph is a shape
   pub shape : IsShape (shape_of (graph_after a))
+  -- exactly its nodes have a block
   pub partition : IsPartition (shape_of (graph_after a)) (shown_blocks base d)
+  -- no node is listed twice
   pub once : IsDistinct nat_eq nodes
+  -- what was made are blocks, none of them listed twice
   pub blocks : AreBlocks (at (shown_labels base d)) new_blocks
+  -- the support of a pair of blocks is the number of edges from the one to the other
   pub supports : AreEdgeCounts (graph_after a) (shown_blocks base d) (shown_support base d)
 
 -- The nodes are parted, and by that the next nodes may have come apart from others: what held of the nodes and of the
 -- blocks made before holds of the next nodes and of the blocks made by then. Where no block was made, no node is next.
 pub record IsRound (a : Pending) (base : Quotient) (d d2 : Drafted) (nodes new_blocks new_blocks2 next : List ℕ) : Type 0 where
+  -- the draft is over this base
   pub over : IsOver base.blocks.block_of base.blocks.labels d2
+  -- what held after the rounds before (`IsSplitInside`) holds after this one, of the next nodes and of all blocks made
   pub split : (inside : ℕ → Bool) (first : List (Option ℕ)) → IsClosed (shape_of (graph_after a)) inside
       → IsSplitInside (shape_of (graph_after a)) inside first (shown_blocks base d) nodes new_blocks
       → IsSplitInside (shape_of (graph_after a)) inside first (shown_blocks base d2) next new_blocks2
+  -- no next node is listed twice
   pub once : IsDistinct nat_eq next
+  -- where nodes had the labels of their blocks, they have them still
   pub block_labels : (node_labels : ℕ → Option ℕ) → BlocksHaveLabels (shown_blocks base d) (at (shown_labels base d)) node_labels
       → BlocksHaveLabels (shown_blocks base d2) (at (shown_labels base d2)) node_labels
+  -- what was made are blocks, none of them listed twice
   pub blocks : AreBlocks (at (shown_labels base d2)) new_blocks2
+  -- the support of a pair of blocks is the number of edges from the one to the other
   pub supports : AreEdgeCounts (graph_after a) (shown_blocks base d2) (shown_support base d2)
+  -- no fewer blocks are listed than before
   pub least : length new_blocks ≤ length new_blocks2
+  -- a block was made, or no node is next
   pub more : (length new_blocks < length new_blocks2) ⊎ (next ≡ [])
 
 -- the draft has further blocks, and all else is as it was

@@ -40,24 +40,38 @@ either f g n = f n || g n
 -- After some targets: the partition is stable except perhaps at the targets that are left and the nodes that are
 -- examined next, and for the rest as for `IsSplitInside`.
 pub record IsSplitBut (s : Shape) (inside : ℕ → Bool) (first p : List (Option ℕ)) (next : List ℕ) (rest : ℕ → Bool) (new_blocks : List ℕ) : Type 0 where
+  -- stable, except perhaps at the nodes that are examined next and the targets that are left
   pub stable : StableBut s p (either (has next) rest)
+  -- each block lies within one of the first partition
   pub within : IsRefinement first p
+  -- outside, nodes are together exactly where they were in the first partition
   pub same : SameBut first p inside
+  -- nodes that are together have one label, if neither is a target that is left
   pub labels : (u v : ℕ) → IsFalse (rest u) → IsFalse (rest v) → Together p u v → s.label u ≡ s.label v
+  -- what is examined next are nodes, each inside, and a child of a node inside
   pub next_nodes : (n : ℕ) → IsTrue (has next n) → IsNode s n
   pub next_inside : (n : ℕ) → IsTrue (has next n) → IsTrue (inside n)
   pub next_from : (n : ℕ) → IsTrue (has next n) → (q : ℕ) × IsTrue (inside q) × IsParent s q n
+  -- each node is in a block that was made, or in its block of the first partition
   pub moved_new : (n b : ℕ) → at p n ≡ Some b → IsTrue (has new_blocks b) ⊎ (at first n ≡ Some b)
+  -- no block that was made is listed twice
   pub new_once : IsDistinct nat_eq new_blocks
+  -- members of these blocks lie inside
   pub new_inside : (b n : ℕ) → IsTrue (has new_blocks b) → at p n ≡ Some b → IsTrue (inside n)
+  -- each of these blocks has a member
   pub new_some : (b : ℕ) → IsTrue (has new_blocks b) → (n : ℕ) × (at p n ≡ Some b)
+  -- none of their members is a target that is left
   pub new_off : (b n : ℕ) → IsTrue (has new_blocks b) → at p n ≡ Some b → IsFalse (rest n)
 
 -- the first of what is left is t, the rest is what comes behind it
 pub record IsFirstLeft (rest rest2 : ℕ → Bool) (t : ℕ) : Type 0 where
+  -- t was left
   pub here : IsTrue (rest t)
+  -- it isn't any more
   pub gone : IsFalse (rest2 t)
+  -- what is left was left
   pub within : (n : ℕ) → IsTrue (rest2 n) → IsTrue (rest n)
+  -- what is no longer left, other than t, wasn't left before
   pub only : (n : ℕ) → IsFalse (rest2 n) → n ≢ t → IsFalse (rest n)
 
 -- the blocks of the targets are blocks as shown

@@ -14,47 +14,70 @@ use Rattle.quotient_draft.specs.Basis.{IsOver}
 -- The index on the way to the graph g2: some nodes have come, each into a further block, some have gone, and supports count
 -- the edges of the graph h. Blocks of the base keep their labels.
 pub record IsIndexOnWay (g2 h : Graph) (came gone : List ℕ) (q : Quotient) (d : Drafted) : Type 0 where
+  -- the draft is over the base
   pub over : IsOver q.blocks.block_of q.blocks.labels d
+  -- blocks of the base keep their labels
   pub labels : (b l : ℕ) → at q.blocks.labels b ≡ Some l → at (shown_labels q d) b ≡ Some l
+  -- nodes that have come are in blocks with their labels, those that have gone are in none, all others are where they were
   pub nodes : HaveNodesMoved g2 q.blocks.block_of (shown_blocks q d) (at (shown_labels q d)) came gone
+  -- the support of a pair of blocks is the number of edges of h from the one to the other
   pub supports : AreEdgeCounts h (shown_blocks q d) (shown_support q d)
 
 -- the node has come into a block with this label, and all blocks keep their labels
 pub record IsNodePut (q : Quotient) (n label : ℕ) (d d2 : Drafted) : Type 0 where
+  -- the block of the node
   pub block : ℕ
+  -- the node is in it, and each other node is where it was
   pub blocks : PutsNode n (Some block) (shown_blocks q d) (shown_blocks q d2)
+  -- it has this label
   pub label_is : at (shown_labels q d2) block ≡ Some label
+  -- blocks keep their labels
   pub labels : (b l : ℕ) → at (shown_labels q d) b ≡ Some l → at (shown_labels q d2) b ≡ Some l
+  -- supports are as before
   pub supports : (x y : ℕ) → shown_support q d2 x y ≡ shown_support q d x y
+  -- the draft is still over the base
   pub over : IsOver q.blocks.block_of q.blocks.labels d2
 
 -- the node has no block, and nothing else has changed
 pub record IsNodeOut (q : Quotient) (n : ℕ) (d d2 : Drafted) : Type 0 where
+  -- the node has no block, and each other node is where it was
   pub blocks : PutsNode n None (shown_blocks q d) (shown_blocks q d2)
+  -- labels and supports are as before
   pub labels : shown_labels q d2 ≡ shown_labels q d
   pub supports : (x y : ℕ) → shown_support q d2 x y ≡ shown_support q d x y
+  -- the draft is still over the base
   pub over : IsOver q.blocks.block_of q.blocks.labels d2
 
 -- one edge fewer leads from the block of u to that of v, and nothing else has changed
 pub record IsPairLowered (q : Quotient) (u v : ℕ) (d d2 : Drafted) : Type 0 where
+  -- the blocks of u and of v
   pub first : ℕ
   pub second : ℕ
+  -- u is in the first, v in the second
   pub from : at (shown_blocks q d) u ≡ Some first
   pub onto : at (shown_blocks q d) v ≡ Some second
+  -- the support of this pair is one less, and all others are as before
   pub lowered : LowersPair first second (shown_support q d) (shown_support q d2)
+  -- blocks and labels are as before
   pub blocks : shown_blocks q d2 ≡ shown_blocks q d
   pub labels : shown_labels q d2 ≡ shown_labels q d
+  -- the draft is still over the base
   pub over : IsOver q.blocks.block_of q.blocks.labels d2
 
 -- one edge more leads from the block of u to that of v, and nothing else has changed
 pub record IsPairRaised (q : Quotient) (u v : ℕ) (d d2 : Drafted) : Type 0 where
+  -- the blocks of u and of v
   pub first : ℕ
   pub second : ℕ
+  -- u is in the first, v in the second
   pub from : at (shown_blocks q d) u ≡ Some first
   pub onto : at (shown_blocks q d) v ≡ Some second
+  -- the support of this pair is one more, and all others are as before
   pub raised : RaisesPair first second (shown_support q d) (shown_support q d2)
+  -- blocks and labels are as before
   pub blocks : shown_blocks q d2 ≡ shown_blocks q d
   pub labels : shown_labels q d2 ≡ shown_labels q d
+  -- the draft is still over the base
   pub over : IsOver q.blocks.block_of q.blocks.labels d2
 
 -- edges lead from the block of u to that of v

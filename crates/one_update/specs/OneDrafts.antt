@@ -32,10 +32,15 @@ use Rattle.one_spec.specs.EdgeCounts.{AreEdgeCounts}
 -- The partition may be unstable at the targets, and a node that gets another label may be in a block that has its old
 -- one.
 pub record ShowsChange (g : Graph) (c : List Step) (q : Quotient) (d : Drafted) : Type 0 where
+  -- the draft is over this base
   pub over : IsOver q.blocks.block_of q.blocks.labels d
+  -- exactly the nodes of the graph after the change have a block
   pub partition : IsPartition (shape_of (after c g)) (shown_blocks q d)
+  -- a node of both graphs has the block that it had
   pub keeps : KeepsBlocks (shape_of g) (shape_of (after c g)) q.blocks.block_of (shown_blocks q d)
+  -- each node that doesn't get another label has the label of its block
   pub block_labels : BlocksHaveLabelsBut (is_relabelled g (after c g)) (shown_blocks q d) (at (shown_labels q d)) (label_number (after c g))
+  -- the support of a pair of blocks is the number of edges from the one to the other
   pub supports : AreEdgeCounts (after c g) (shown_blocks q d) (shown_support q d)
 
 -- the draft shows the next partition, with the labels of members and the numbers of edges
@@ -51,8 +56,11 @@ pub record IsDrafted (g : Graph) (c : List Step) (q : Quotient) (d : Drafted) : 
 
 -- targets of the change, each once, and all nodes at which the two graphs differ in the end
 pub record AreFoundTargets (g : Graph) (c : List Step) (found : List ℕ) : Type 0 where
+  -- no node stands twice
   pub once : IsDistinct nat_eq found
+  -- each is a target of the change
   pub among : (n : ℕ) → IsTrue (has found n) → IsTrue (targets c g n)
+  -- the two graphs differ at these alone
   pub differs : DiffersAt (has found) (shape_of g) (shape_of (after c g))
 
 -- the list has just the targets of the change, each once
@@ -73,10 +81,13 @@ most_steps g c = 8 * rounds_cost g c
 
 -- the block of u has support to that of v
 pub record IsSupported (v : View) (from onto : ℕ) : Type 0 where
+  -- the blocks of the two nodes
   pub first : ℕ
   pub second : ℕ
+  -- `from` is in the first, `onto` in the second
   pub from_at : at v.block_of from ≡ Some first
   pub onto_at : at v.block_of onto ≡ Some second
+  -- the first has support to the second
   pub some : 0 < support_at v.supports first second
 
 -- the quotient is a 1-index of the graph before the change, and the change is new
@@ -105,7 +116,9 @@ pub record KeepsUnreached (g : Graph) (c : List Step) (block shown : List (Optio
 
 -- supports alone are drafted
 pub record AreSupportsAlone (d : Drafted) : Type 0 where
+  -- no node moves
   pub moves : d.moves ≡ []
+  -- no block is added
   pub added : d.added ≡ []
 
 -- The draft shows a stable partition of a graph.

@@ -19,7 +19,9 @@ AreRuns (r ∷ rs) places = (0 < r.len) × (r.len ≤ length places) × AreRuns 
 
 -- these are the last pairs, and the others stay
 pub record IsTaken (old new : List (ℕ × ℕ)) (s : ℕ) (places : List ℕ) : Type 0 where
+  -- the old list ends with the state at these places
   pub last : old ≡ new ++ all_at s places
+  -- there is such a place
   pub some : 0 < length places
 
 -- the state at the place is among those listed

@@ -11,24 +11,40 @@ use Rattle.path_automaton.specs.declared.frontier.Frontier.{Frontier}
 
 -- Further places of the kind were marked in a row, and found.
 pub record Gathers (P : ℕ → Type 0) (before after : List Bool) (found finds : List ℕ) : Type 0 where
+  -- the row is as wide as before
   pub wide : length after ≡ length before
+  -- what was marked is so still
   pub grows : (v : ℕ) → IsSet before v → IsSet after v
+  -- what is newly marked is of the kind, and is found
   pub fresh : (v : ℕ) → IsSet after v → IsSet before v ⊎ (P v × IsTrue (has finds v))
+  -- what was found is so still
   pub kept : (v : ℕ) → IsTrue (has found v) → IsTrue (has finds v)
+  -- what is newly found is of the kind, and marked
   pub source : (v : ℕ) → IsTrue (has finds v) → IsTrue (has found v) ⊎ (P v × IsSet after v)
+  -- as many were found as were marked
   pub counted : length finds + row_members before ≡ length found + row_members after
+  -- marks only grow
   pub more : row_members before ≤ row_members after
 
 -- Further pairs of the kind were marked, and listed.
 pub record SpreadsOver (R : ℕ → ℕ → Type 0) (before after : List (List Bool)) (waited listed : List (ℕ × ℕ)) : Type 0 where
+  -- there are as many rows
   pub states : length after ≡ length before
+  -- each as wide as before
   pub wide : (s : ℕ) → length (row after s) ≡ length (row before s)
+  -- and as many pairs
   pub same_pairs : pairs after ≡ pairs before
+  -- what was marked is so still
   pub grows : (s v : ℕ) → IsMarked before s v → IsMarked after s v
+  -- what is newly marked is of the kind, and is listed
   pub fresh : (s v : ℕ) → IsMarked after s v → IsMarked before s v ⊎ (R s v × Among listed s v)
+  -- what was listed is so still
   pub kept : (s v : ℕ) → Among waited s v → Among listed s v
+  -- what is newly listed is of the kind, and marked
   pub source : (s v : ℕ) → Among listed s v → Among waited s v ⊎ (R s v × IsMarked after s v)
+  -- as many pairs were listed as were marked
   pub counted : length listed + members before ≡ length waited + members after
+  -- marks only grow
   pub more : members before ≤ members after
 
 abbrev pub Spreads : (ℕ → ℕ → Type 0) → Frontier → Frontier → Type 0

@@ -47,7 +47,9 @@ Opens kept text None reply = (error : OpenError) × TellsLine text error × (rep
 
 -- what a call starts from or leaves: perhaps a session, perhaps the steps of a group that is begun
 pub record Kept : Type 0 where
+  -- the session, none where none is open
   pub session : Option SessionOf
+  -- the steps of the group that is begun, none where none is
   pub group : Option (List Step)
 
 abbrev pub kept_by : Held → Kept
@@ -141,7 +143,9 @@ found_text (Some s) = s.text
 -- a part of the list, from the place `first` on, lies at the front of the new list, as much as there is room for, and what lies
 -- behind it stays
 pub record IsCopied {X : Type 0} (list : List X) (first : ℕ) (old new : List X) (count : ℕ) : Type 0 where
+  -- as much is copied as is left from that place on, or as there is room for
   pub count_is : count ≡ min (length list - first) (length old)
+  -- this part lies at the front, and what lies behind it stays
   pub new_is : new ≡ take count (drop first list) ++ drop count old
 
 -- What was found last is copied so, and all stays.

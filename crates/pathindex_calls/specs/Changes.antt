@@ -19,13 +19,21 @@ use Rattle.pathindex_calls.specs.Replies.{said, of_update, misspelled, out_of_me
 
 -- A change was asked for: it was made, or refused for its cause.
 pub record Makes (c : List Step) (s t : SessionOf) (reply : Reply) : Type 0 where
+  -- what the engine answers
   pub answer : Result Applied UpdateError
+  -- the reply says the same
   pub reply_is : reply ≡ of_update answer
+  -- a refusal comes exactly if the change is refused within the engine's limits, and for the same cause
   pub refused : (r : Refusal) → (answer ≡ Err (Refused r)) ↔ (engine_outcome c s.engine ≡ Err r)
+  -- if there is no error, the change was made
   pub made : IfOk answer (IsMade c (engine_in s) (engine_in t))
+  -- if all steps are idle, memory doesn't run out
   pub same : is_new c (graph_of s) ≡ false → answer ≢ Err Memory
+  -- an error leaves the engine as it was
   pub err : OnErr answer (engine_in t ≡ engine_in s)
+  -- terms and triples keep their numbers
   pub names : t.names ≡ s.names
+  -- what was found last stays
   pub keeps : KeepsFound s t
 
 -- A change of one step was asked for, unless memory ran out before.
@@ -34,19 +42,30 @@ MakesOne x s t reply = Makes (x ∷ []) s t reply ⊎ ((t ≡ s) × (reply ≡ o
 
 -- A triple was inserted, or refused.
 pub record Inserts (x : Triple) (s t : SessionOf) (reply : Reply) : Type 0 where
+  -- what the engine answers
   pub answer : Result Applied UpdateError
+  -- the reply says the same
   pub reply_is : reply ≡ of_update answer
+  -- the steps that the triple lacks were made as one change, or refused for their cause
   pub edited : IsEdited (Some (insert_steps (names_of s) (graph_of s) x)) (engine_in s) (engine_in t) answer
+  -- if they were made, the parts of the triple have the numbers of their nodes
   pub names : OnOk answer (AreSameNames (names_of t) (names_with (names_of s) (graph_of s) x))
+  -- an error leaves all numbers
   pub err_names : OnErr answer (AreSameNames (names_of t) (names_of s))
+  -- what was found last stays
   pub keeps : KeepsFound s t
 
 -- A triple was deleted, or refused.
 pub record Deletes (x : Triple) (s t : SessionOf) (reply : Reply) : Type 0 where
+  -- what the engine answers
   pub answer : Result Applied UpdateError
+  -- the reply says the same
   pub reply_is : reply ≡ of_update answer
+  -- the steps that take the triple away were made as one change, or refused for their cause
   pub edited : IsEdited (delete_change (names_of s) (graph_of s) x) (engine_in s) (engine_in t) answer
+  -- terms and triples keep their numbers
   pub names : t.names ≡ s.names
+  -- what was found last stays
   pub keeps : KeepsFound s t
 
 -- A text was read: it spells something, from which the call went on; or it spells nothing of the kind, or memory ran out, and

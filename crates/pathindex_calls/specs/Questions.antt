@@ -32,9 +32,13 @@ pub record Asks (spells : Query → Type 0) (asked : List ℕ) (via : Via) (s t 
   pub reply_is : reply ≡ of_answer answer (length t.nodes)
   -- the answer is that to a query which the text spells
   pub answers : AnswersText spells (is_past program_limits asked) s t via answer
+  -- the engine stays, but for views that were computed
   pub keeps : KeepsAllButViews (engine_in s) (engine_in t)
+  -- the numbers of terms and triples stay
   pub names : t.names ≡ s.names
+  -- an error leaves the nodes that were found last
   pub err : OnErr answer (t.nodes ≡ s.nodes)
+  -- the walk and the text found last stay
   pub walk : t.walk ≡ s.walk
   pub text : t.text ≡ s.text
 
@@ -48,9 +52,12 @@ pub record Explains (asked : List ℕ) (v : ℕ) (s t : SessionOf) (reply : Repl
   pub explained : ExplainsText asked (is_past program_limits asked) s t v answer
   -- without a walk the list of nodes stays
   pub no_walk : answer ≡ Ok false → t.walk ≡ s.walk
+  -- an error leaves the walk that was found last
   pub err : OnErr answer (t.walk ≡ s.walk)
+  -- the engine stays, and the numbers of terms and triples
   pub engine : t.engine ≡ s.engine
   pub names : t.names ≡ s.names
+  -- the nodes and the text found last stay
   pub nodes : t.nodes ≡ s.nodes
   pub text : t.text ≡ s.text
 
@@ -92,9 +99,13 @@ pub record Measures (s t : SessionOf) (reply : Reply) : Type 0 where
   pub reply_is : reply ≡ of_sizes answer (length t.text)
   -- the text lists the sizes of the indexes
   pub measured : OnOk answer (ListsSizes (graph_of s) (kept_in (engine_in s)) t.text)
+  -- the engine stays, but for views that were computed
   pub keeps : KeepsAllButViews (engine_in s) (engine_in t)
+  -- the numbers of terms and triples stay
   pub names : t.names ≡ s.names
+  -- an error leaves the text
   pub err : OnErr answer (t.text ≡ s.text)
+  -- the nodes and the walk found last stay
   pub nodes : t.nodes ≡ s.nodes
   pub walk : t.walk ≡ s.walk
 
@@ -108,9 +119,13 @@ pub record Saves (s t : SessionOf) (reply : Reply) : Type 0 where
   pub saved : OnOk answer (SavesFile (graph_of s) (kept_in (engine_in s)) t.text)
   -- one file alone is spelled so, if each node's label is one
   pub whole : OnOk answer (HasLabels (graph_of s) → IsIndexFile (graph_of s) (kept_in (engine_in s)) t.text)
+  -- the engine stays, but for views that were computed
   pub keeps : KeepsAllButViews (engine_in s) (engine_in t)
+  -- the numbers of terms and triples stay
   pub names : t.names ≡ s.names
+  -- an error leaves the text
   pub err : OnErr answer (t.text ≡ s.text)
+  -- the nodes and the walk found last stay
   pub nodes : t.nodes ≡ s.nodes
   pub walk : t.walk ≡ s.walk
 
@@ -126,5 +141,7 @@ pub record Forgets (kind : Kind) (s t : SessionOf) (reply : Reply) : Type 0 wher
   pub no_index : (answer ≡ Err NoIndex) ↔ (has_kind (engine_kinds meaning_of s.engine) kind ≡ false)
   -- and for no other reason
   pub no_other : (r : Refusal) → answer ≡ Err r → r ≡ NoIndex
+  -- the numbers of terms and triples stay
   pub names : t.names ≡ s.names
+  -- what was found last stays
   pub keeps : KeepsFound s t

@@ -63,9 +63,9 @@ pub record IsListed (e f : EngineSeen) (via : Via) (result : Result (List ℕ) A
   pub computed : via ≡ Fb → OnOk result (IsFbComputed f.boxes)
   -- where another one is listed, every index stays as it is
   pub others : via ≢ Fb → f.boxes ≡ e.boxes
-  -- of the graph one view at most is read
+  -- the whole graph is read at most once
   pub cost : after ≤ counting_view before (graph_in e.opened)
-  -- nothing, where it isn't the forward and backward index that is listed
+  -- nothing of it is read, where it isn't the forward and backward index that is listed
   pub free : via ≢ Fb → after ≡ before
   -- nor where its view is computed already, or isn't kept
   pub still : IsFbComputed e.boxes → after ≡ before
@@ -76,9 +76,9 @@ pub record IsMeasured (e f : EngineSeen) (result : Result (List ℕ) Memory) (be
   pub text : IfOk result (ListsSizes (graph_in e.opened) (kept_in e))
   -- unless memory runs out, the view of the forward and backward index is computed afterwards, where that one is kept
   pub computed : OnOk result (IsFbComputed f.boxes)
-  -- of the graph one view at most is read
+  -- the whole graph is read at most once
   pub cost : after ≤ counting_view before (graph_in e.opened)
-  -- nothing, where that index isn't kept or its view is computed already
+  -- nothing of it is read, where that index isn't kept or its view is computed already
   pub still : IsFbComputed e.boxes → after ≡ before
 
 -- What a call of `ready` answers, computes and reads. The last two numbers count what was read of the graph, before and after.
@@ -89,9 +89,9 @@ pub record IsReadied (e f : EngineSeen) (via : Via) (result : Result (Unit {0}) 
   pub no_index : (result ≡ Err NoIndex) ↔ (is_kept (kept_in e) via ≡ false)
   -- where it isn't the forward and backward index that is asked for, every index stays as it is
   pub others : via ≢ Fb → f.boxes ≡ e.boxes
-  -- of the graph one view at most is read
+  -- the whole graph is read at most once
   pub cost : after ≤ counting_view before (graph_in e.opened)
-  -- nothing, where it isn't the forward and backward index that is asked for
+  -- nothing of it is read, where it isn't the forward and backward index that is asked for
   pub free : via ≢ Fb → after ≡ before
   -- nor where its view is computed already, or isn't kept
   pub still : IsFbComputed e.boxes → after ≡ before
@@ -106,6 +106,6 @@ pub record IsViewIn (e : EngineSeen) (via : Via) (v : View) : Type 0 where
   -- two nodes have the same block exactly where the index relates them
   pub shows : ShowsIndex (graph_in e.opened) (kept_in e) via (together v.block_of)
 
--- the index isn't kept, or it is the forward and backward index, whose view may be not computed
+-- the index isn't kept, or it is the forward and backward index and its view isn't computed
 abbrev pub LacksView : EngineSeen → Via → Type 0
 LacksView e via = (is_kept (kept_in e) via ≡ false) ⊎ ((via ≡ Fb) × (¬ IsFbComputed e.boxes))

@@ -93,8 +93,7 @@ impl<B: PathIndex> Engine<B> {
     }
 
     /// Opens the engine with a graph, limits on what changes may make of it, and the highest level of the A(k)-family,
-    /// and builds each index. Where memory runs out, the graph is dropped, the engine isn't open, and boxes that are
-    /// already built keep their views.
+    /// and builds each index. Where memory runs out, the graph is dropped, and the engine isn't open.
     ///
     /// O(n + m) for n node numbers and m edges, and what the build of each box takes. With all indexes of this library
     /// that is expected O((k + r) (n + m log d)) in all, where a node has at most d neighbours on a side, and the
@@ -188,8 +187,8 @@ impl<B: PathIndex> Engine<B> {
 
     /// The answers of a query, asked of the graph itself or through an index, and how they were found. `NoIndex` comes
     /// exactly if the index isn't kept, memory or not. If the forward and backward index is asked and its view isn't
-    /// computed, it is computed first: that takes what `FbIndex` takes, and reads one view of the graph. Of the graph
-    /// itself a query costs one view of the graph; through an index that is exact for it and computed, it reads nothing
+    /// computed, it is computed first: that takes what `FbIndex` takes, and reads the whole graph once. A query of the graph
+    /// itself reads the whole graph once; through an index that is exact for it and computed, it reads nothing
     /// of the graph. Answered or not, the graph, its limits, the levels, which indexes are kept, the blocks of the
     /// 1-index and each view that is computed stay. `path` and `branch` say how much time and memory it takes.
     pub fn ask<L: Ledger>(
@@ -256,7 +255,7 @@ impl<B: PathIndex> Engine<B> {
 
     /// Lists the blocks of an index, each with its nodes; `via` isn't `Data`. `NoIndex` comes exactly if the index isn't
     /// kept, memory or not. If the forward and backward index is listed and its view isn't computed, it is computed
-    /// first: that takes what `FbIndex` takes, and reads one view of the graph. Otherwise nothing of the graph is read.
+    /// first: that takes what `FbIndex` takes, and reads the whole graph once. Otherwise nothing of the graph is read.
     /// An error leaves the graph and each view that is computed.
     ///
     /// O(m log m + t) for m nodes and t bytes of text where fewer than half of the node numbers ever allocated are
@@ -282,8 +281,8 @@ impl<B: PathIndex> Engine<B> {
     }
 
     /// The size of the graph and of each index that is kept, in the order of `Via::nth`. The view of the forward and
-    /// backward index is computed first, if the index is kept and it isn't: that takes what `FbIndex` takes; of the
-    /// graph it reads one view. Else nothing of the graph is read. `Memory` leaves the graph and each view that is
+    /// backward index is computed first, if the index is kept and it isn't: that takes what `FbIndex` takes, and reads
+    /// the whole graph once. Else nothing of the graph is read. `Memory` leaves the graph and each view that is
     /// computed. O(k) for levels up to k if nothing is computed; it takes the memory of the text.
     pub fn sizes<L: Ledger>(&mut self, alloc: Global, steps: &mut Steps<L>) -> Result<Text, Memory>
         requires open { IsSome self.old.opened }
@@ -300,7 +299,7 @@ impl<B: PathIndex> Engine<B> {
 
     /// Computes the view of an index, if it isn't; `via` isn't `Data`. `NoIndex` comes exactly if the index isn't kept, memory
     /// or not. Only the view of the forward and backward index may be missing: computing it takes what `FbIndex` takes, and
-    /// reads one view of the graph. Otherwise nothing of the graph is read, and no memory is taken. An error leaves the graph
+    /// reads the whole graph once. Otherwise nothing of the graph is read, and no memory is taken. An error leaves the graph
     /// and each view that is computed. O(i) for i indexes, if nothing is computed.
     pub fn ready<L: Ledger>(&mut self, via: Via, steps: &mut Steps<L>) -> Result<(), AskError>
         requires open { IsSome self.old.opened }

@@ -36,8 +36,8 @@ use triple_names::Names;
 /// the script's lines are read from the shelf, and what they print is written to the sink.
 ///
 /// With a seed, from 0 to 2^64 - 1, a graph file and a script are made from it and used instead of files: the engine keeps
-/// all its indexes but those, k is 2, and the shelf isn't called. Changes that are accepted and indexes that are forgotten print nothing
-/// then, and an answer prints its first line only.
+/// all its indexes but the bounded forward and backward ones, k is 2, and the shelf isn't called. Changes that are accepted and indexes
+/// that are forgotten print nothing then, and an answer prints its first line only.
 ///
 /// To check a file, the engine drops all its indexes and stays closed. The index file is read, and each of its views is
 /// compared with the graph that it holds.
@@ -54,13 +54,14 @@ use triple_names::Names;
 /// | 7 | memory runs out |
 /// | 8 | a view of the index file doesn't fit, and `view` with the index of the first such view is written |
 ///
-/// If the shelf is observable, the graph file loads, no line of the script is bad, no call fails and neither count of
-/// failed calls is full, the status is 0, 1 or 7. With a seed it is so if no write fails and the sink's count isn't
-/// full. If an observable shelf has the index file, it is spelled and within limits, no call fails and neither count is
-/// full, the status is 0, 8 or 7. At 5, 6 and 7 a prefix of what the run prints is written. O(b) for b bytes of both
-/// files, and what opening the engine and the commands cost (`Engine`); beside the engine it takes memory for the numbers
-/// of terms and triples (`Names`), a block of the script, its longest line, and what is gathered of the output. A check
-/// costs what `index_file::read` costs, and `index_check::fits` for each view.
+/// If well-formed words name a script of an observable shelf, it and the graph file, if any, are there, that file loads, no
+/// line of the script is bad, no call fails and neither count of failed calls is full, the status is 0, 1 or 7. With a seed
+/// it is so if no write fails and the sink's count isn't full. If an observable shelf has the index file that is to be
+/// checked, it is spelled and within limits, no call fails and neither count is full, the status is 0, 8 or 7. At 5, 6 and
+/// 7 a prefix of what the run prints is written. O(b) for b bytes of both files, and what opening the engine and the
+/// commands cost (`Engine`); beside the engine it takes memory for the numbers of terms and triples (`Names`), a block of
+/// the script, its longest line, and what is gathered of the output. A check costs what `index_file::read` costs, and
+/// `index_check::fits` for each view.
 pub fn run<B: PathIndex, H: Shelf, K: Sink>(
     alloc: Global,
     words: &[String],

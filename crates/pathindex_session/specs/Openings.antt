@@ -20,7 +20,9 @@ kinds_kept kept = A ∷ (if kept.one then One ∷ [] else []) ++ (if kept.fb the
 
 -- the engine has this graph and keeps these indexes
 pub record OpensGraph (g : Graph) (kept : Indexes) (e : EngineOf AnyIndex) : Type 0 where
+  -- the engine is open with this graph, the limits of the program and this highest level
   pub opened : IsOpenedWith e g program_limits kept.k
+  -- it keeps indexes of just the kinds that were asked for
   pub kinds : engine_kinds meaning_of e ≡ kinds_kept kept
 
 -- the same with the graph of the triples in a text, and with the numbers that the load gave its terms and triples

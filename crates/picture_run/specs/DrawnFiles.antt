@@ -21,7 +21,9 @@ use Rattle.picture_run.specs.ShownTexts.{ShowsText, StopsAtOnce, graph_line, usa
 
 -- each live node is a block of its own, and the supports are those of the edges
 pub record IsWhole (g : Graph) (q : Quotient) : Type 0 where
+  -- each live node has a block of its own
   pub lone : IsLone g q.blocks
+  -- the support of a pair of blocks is the number of edges from the one to the other
   pub supports : AreSupports g.edges q.blocks.block_of q.supports
 
 -- the index graph is one of this index: exactly the nodes have a block, and it fits the graph
@@ -41,8 +43,11 @@ IsAsked (B i) g q = IsIndex (B i) g q
 
 -- The text is a picture of the graph, with these names of nodes, as the settings ask for.
 pub record IsPicture (s : Settings) (g : Graph) (names : List (List ℕ)) (text : List ℕ) : Type 0 where
+  -- the index graph that is drawn
   pub drawn : Quotient
+  -- it is one of the graph, and the one asked for
   pub asked : IsAsked s.via g drawn
+  -- the text is its picture
   pub text_is : text ≡ dot_text g drawn names s.blocks s.members
 
 -- the picture is written, unless a write fails or memory runs out
@@ -52,14 +57,17 @@ ShowsPicture s g names old new status =
 
 -- The text is a picture of the graph to which the file loads.
 pub record IsPictureOf (s : Settings) (files : Option (List File)) (text : List ℕ) : Type 0 where
+  -- the graph, the numbers of its terms, and the names of its nodes
   pub graph : Graph
   pub terms : Names
   pub names : List (List ℕ)
+  -- the file loads to this graph
   pub loads : LoadsObservable program_limits files s.file (loaded graph)
   -- the terms have the numbers that the load gave them
   pub numbers : NamesObservable program_limits files s.file graph terms
   -- the name of a node is that of a term with its number, or empty
   pub named : AreTermNames terms.terms names
+  -- the text is a picture of this graph with these names
   pub picture : IsPicture s graph names text
 
 -- the picture of the file is written, unless a write fails

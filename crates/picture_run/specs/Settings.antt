@@ -21,16 +21,22 @@ pub record Settings : Type 0 where
 
 -- The level of an index is at most 8, and the numbers are those that can be asked for.
 pub record AreWithin (s : Settings) : Type 0 where
+  -- the level, if the index has one, is at most 8
   pub level : (kind : Kind) (level : ℕ) → place_of s.via ≡ Some (kind, level) → level ≤ 8
+  -- from 1 to 200 blocks are drawn
   pub some_blocks : 1 ≤ s.blocks
   pub most_blocks : s.blocks ≤ 200
+  -- from 1 to 50 nodes of a block are named
   pub some_members : 1 ≤ s.members
   pub most_members : s.members ≤ 50
 
 -- the text of each argument, if it is there
 pub record Arguments : Type 0 where
+  -- the name of the graph file
   pub graph : Option (List ℕ)
+  -- what is drawn: the graph or an index
   pub graph_of : Option (List ℕ)
+  -- how many blocks are drawn at most, and how many nodes of each are named
   pub blocks : Option (List ℕ)
   pub members : Option (List ℕ)
 

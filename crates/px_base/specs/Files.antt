@@ -3,7 +3,9 @@ use Rattle.std.specs.Prelude.{◌≡◌, ℕ, ◌++◌, Bool, true, false, List,
 
 -- a file, by its name and all of its bytes
 pub record File : Type 0 where
+  -- its name
   pub name : List ℕ
+  -- all of its bytes
   pub bytes : List ℕ
 
 -- what the first file of that name holds

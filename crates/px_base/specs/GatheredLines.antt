@@ -8,27 +8,43 @@ use Rattle.px_base.specs.ReaderStates.{IsFirst, IsOver}
 
 -- What is ahead, up to the first LF or CR, or else all of it, went behind the line.
 pub record TakesPart (room : ℕ) (ahead line rest new : List ℕ) : Type 0 where
+  -- what was taken
   pub part : List ℕ
+  -- it has no line end
   pub plain : IsUncut part
+  -- it stands behind the line
   pub line_is : new ≡ line ++ part
+  -- there was room for it
   pub short : length new ≤ room
+  -- it stood ahead
   pub ahead_is : ahead ≡ part ++ rest
+  -- an end stands behind it, or nothing
   pub stopped : IsStopped rest
 
 -- more of what is ahead stands before the first LF or CR than the line has room for
 pub record Overfills (room : ℕ) (ahead line : List ℕ) : Type 0 where
+  -- some of what is ahead
   pub prefix : List ℕ
+  -- what stands behind that
   pub rest : List ℕ
+  -- it has no line end
   pub plain : IsUncut prefix
+  -- there isn't room for it
   pub long : room < length line + length prefix
+  -- it stands ahead
   pub ahead_is : ahead ≡ prefix ++ rest
 
 -- some of the text ahead, none of it LF or CR, went behind the line
 pub record Gathers (room : ℕ) (line new : List ℕ) (before after : Option (List ℕ)) : Type 0 where
+  -- what was taken
   pub part : List ℕ
+  -- it has no line end
   pub plain : IsUncut part
+  -- it stands behind the line
   pub line_is : new ≡ line ++ part
+  -- there was room for it
   pub short : length new ≤ room
+  -- it was taken from what is ahead, if that is observable
   pub observable : Consumes before after part
 
 -- the same, where the text ahead is what the window holds and then what the shelf has left
@@ -37,24 +53,36 @@ GathersAhead room line new window left window2 left2 = Gathers room line new (pr
 
 -- more stands before the first LF or CR than the line has room for
 pub record IsTooLong (room : ℕ) (line : List ℕ) (before : Option (List ℕ)) : Type 0 where
+  -- some of what is ahead
   pub prefix : List ℕ
+  -- what stands behind that, if it is observable
   pub rest : Option (List ℕ)
+  -- it has no line end
   pub plain : IsUncut prefix
+  -- there isn't room for it
   pub long : room < length line + length prefix
+  -- it stands ahead, if that is observable
   pub observable : Consumes before rest prefix
 
 -- the text was over before the line, and nothing was taken
 pub record IsDone (line window : List ℕ) (before after : Option (List ℕ)) : Type 0 where
+  -- the line is empty
   pub empty : line ≡ []
+  -- so is what was read ahead
   pub drained : window ≡ []
+  -- the text was over before, and is so still
   pub over_before : IsOver before
   pub over_after : IsOver after
 
 -- a line was taken with its end, both within the limits, or nothing where the text is over
 pub record GathersLine (line_limit room : ℕ) (line : List ℕ) (end : LineEnd) (window : List ℕ) (before after : Option (List ℕ)) : Type 0 where
+  -- the line is within its limit
   pub short : length line ≤ line_limit
+  -- with its end it is within the room
   pub fits : length line + length (end_bytes end) ≤ room
+  -- if there is one, it is the first line of the text
   pub first : 0 < length line + length (end_bytes end) → IsFirst (record { text = line; end = end_bytes end }) before after
+  -- if there is none, the text is over
   pub done : length line + length (end_bytes end) ≡ 0 → IsDone line window before after
 
 -- the same, where the text ahead is what the window holds and then what the shelf has left

@@ -4,6 +4,7 @@ use Rattle.std.specs.Global.{Global}
 use Rattle.px_base.specs.Files.{File}
 
 pub record ShelfInMemory : Type 0 where
+  -- the files, each by its name
   pub files : List File
   -- what is left of the open file; none where no file is open
   pub left : Option (List ℕ)
@@ -15,6 +16,7 @@ pub record ShelfInMemory : Type 0 where
   pub faults : ℕ
 
 pub record SinkInMemory : Type 0 where
+  -- all that was written
   pub written : List ℕ
   -- the most bytes that are written in all, and by one call
   pub room : ℕ

@@ -27,15 +27,22 @@ IsWhole Over after = IsAtEnd after
 
 -- an end was taken, of at most so many bytes
 pub record TakesEnd (room : ℕ) (end : LineEnd) (before after : Option (List ℕ)) : Type 0 where
+  -- the end has no more bytes than there is room for
   pub fits : length (end_bytes end) ≤ room
+  -- it was taken from what is ahead, if that is observable
   pub observable : Consumes before after (end_bytes end)
+  -- nothing of the end is left
   pub whole : IsWhole end after
 
 -- the end ahead has more bytes than the room
 pub record EndPasses (room : ℕ) (before : Option (List ℕ)) : Type 0 where
+  -- the end ahead
   pub end : LineEnd
+  -- what stands behind it, if that is observable
   pub rest : Option (List ℕ)
+  -- it has more bytes than there is room for
   pub long : room < length (end_bytes end)
+  -- it stands ahead, if that is observable
   pub observable : Consumes before rest (end_bytes end)
 
 -- no byte is there, or the first begins an end
@@ -45,5 +52,7 @@ IsStopped (b ∷ bs) = (b ≡ 10) ⊎ (b ≡ 13)
 
 -- an end is ahead, or the text is over
 pub record IsAtStop (window : List ℕ) (left : Option (List ℕ)) : Type 0 where
+  -- an end begins the window, or nothing is in it
   pub stopped : IsStopped window
+  -- in that case nothing is left either
   pub over : window ≡ [] → IsAtEnd left

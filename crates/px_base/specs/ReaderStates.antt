@@ -42,10 +42,15 @@ IsFirst l (Some text) (Some rest) = cut text ≡ l ∷ cut rest
 
 -- A line was taken from the text ahead: its first, if the text is observable.
 pub record ReadsLine (old new : ReaderState) (before after : Option (List ℕ)) : Type 0 where
+  -- the line
   pub first : Line
+  -- it has a byte, with its end
   pub some : 0 < length first.text + length first.end
+  -- it is within the limits
   pub within : IsReadable old first
+  -- it is the first of the text, if that is observable
   pub observable : IsFirst first before after
+  -- the reader has it, and counts it and its bytes
   pub passed : new ≡ record old {
     ahead = new.ahead;
     line = first.text;
@@ -60,8 +65,10 @@ IsOver (Some text) = text ≡ []
 
 -- the text is over, and nothing was taken
 pub record Finishes (old new : ReaderState) (before after : Option (List ℕ)) : Type 0 where
+  -- the text was over before, and is so still
   pub over_before : IsOver before
   pub over_after : IsOver after
+  -- the reader has no line, and its counts stay
   pub kept : new ≡ record old { ahead = []; line = [] }
 
 -- a line was taken, where the shelf has this left of its file before and after

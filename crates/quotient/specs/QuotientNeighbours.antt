@@ -18,7 +18,9 @@ is_supported t a b = nat_lt 0 (support_at t a b)
 
 -- children and parents are listed exactly where there is support
 pub record AreNeighbourLists (t : SupportTable) (children parents : List (List ℕ)) : Type 0 where
+  -- the children of a are the blocks to which it has support, each once
   pub children_are : (a : ℕ) → Lists (is_supported t a) (list_at children a)
+  -- the parents of b are the blocks that have support to it, each once
   pub parents_are : (b : ℕ) → Lists (λ a. is_supported t a b) (list_at parents b)
 
 -- one more edge from a to b
@@ -51,6 +53,7 @@ pub record AreListed (edges : Edges) (list : List (ℕ × ℕ)) : Type 0 where
 
 -- the same of those edges of the set that begin before a node
 pub record AreListedBelow (edges : Edges) (n : ℕ) (list : List (ℕ × ℕ)) : Type 0 where
+  -- whatever the partition, the list gives each pair as many edges as begin before the node
   pub same : (block : List (Option ℕ)) (x y : ℕ) → support list block x y ≡ edges_below edges block n x y
 
 -- whatever the blocks: at most 2^30 edges of the list lead from one to another
@@ -68,8 +71,11 @@ AreLive p t = (a b : ℕ) → 0 < support_at t a b → IsSome (at p.labels a) ×
 
 -- what holds of each quotient and its lists of neighbours
 pub record IsSoundQuotient (p : Partition) (t : SupportTable) (children parents : List (List ℕ)) : Type 0 where
+  -- children and parents are listed exactly where there is support
   pub neighbour_lists : AreNeighbourLists t children parents
+  -- support is only between blocks
   pub live : AreLive p t
+  -- there is a list for each block number, on either side
   pub length_children : length p.labels ≤ length children
   pub length_parents : length children ≤ length parents
 
@@ -99,4 +105,5 @@ SameTotals t pairs t2 pairs2 = (x y : ℕ) → total_support t2 pairs2 x y ≡ t
 
 -- those edges of the set that begin before a node are counted or gathered, and no others
 pub record AreCountedBelow (edges : Edges) (block : List (Option ℕ)) (n : ℕ) (t : SupportTable) (pairs : List (ℕ × ℕ)) : Type 0 where
+  -- the table and the list give each pair as many edges as begin before the node
   pub same : (x y : ℕ) → total_support t pairs x y ≡ edges_below edges block n x y

@@ -5,8 +5,11 @@ use Rattle.graph_spec.specs.Members.{at, is_this}
 use Rattle.quotient_draft.specs.Drafts.{with_moves}
 
 pub record KeptMoves : Type 0 where
+  -- for each node that is moved the block where it goes, none where it goes to none
   pub moves : List (ℕ × Option ℕ)
+  -- the blocks that nodes have left
   pub left : List ℕ
+  -- for each block of the base how many of its members are moved
   pub taken : List (ℕ × ℕ)
 
 -- how many are counted for a block, and none where it isn't in the table

@@ -3,8 +3,11 @@ use Rattle.std.specs.Prelude.{◌≡◌, ℕ, ◌<◌, ◌≤◌, Bool, true, fa
 
 -- a is the least number from this one on that passes
 pub record IsLeastFrom (p : ℕ → Bool) (from a : ℕ) : Type 0 where
+  -- it isn't below `from`
   pub from_on : from ≤ a
+  -- it passes
   pub passes : p a ≡ true
+  -- none between the two does
   pub least : (x : ℕ) → from ≤ x → x < a → p x ≡ false
 
 -- the least number from this one on that passes, and none where there is none

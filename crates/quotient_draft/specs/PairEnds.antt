@@ -31,6 +31,9 @@ TakesBack b old new = (before : List (ℕ × SmallVec ℕ)) (end : ℕ) → Note
 
 -- the pairs differ, and their ends are noted
 pub record AreNoted (pairs : List (ℕ × ℕ)) (from onto : List (ℕ × SmallVec ℕ)) : Type 0 where
+  -- no pair stands twice
   pub once : IsDistinct is_pair pairs
+  -- for each block the other ends of the pairs that begin there are noted
   pub from_are : (a : ℕ) → listed from a ≡ ends_from pairs a
+  -- and of those that end there
   pub onto_are : (b : ℕ) → listed onto b ≡ ends_onto pairs b

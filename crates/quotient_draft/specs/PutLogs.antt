@@ -22,16 +22,23 @@ last_put puts b (suc k) = cond (goes_to b (slice_get puts k)) (suc k) (last_put 
 
 -- each put is linked to the one before it into the same block, and the last one of each block is in a table
 pub record AreLinked (puts : List (ℕ × ℕ)) (before : List ℕ) (last : List (ℕ × ℕ)) : Type 0 where
+  -- there is a link for each put
   pub len : length before ≡ length puts
+  -- it leads to the last put before it into the same block
   pub links : (i b : ℕ) → goes_to b (slice_get puts i) ≡ true → slice_index before i ≡ last_put puts b i
+  -- the table has the last put into each block
   pub ends : (b : ℕ) → counted last b ≡ last_put puts b (length puts)
 
 -- The moves are of distinct nodes. For each block those that go into it are counted, those that are taken from it are no more
 -- than there are moves, and each node that goes into a block was put into it.
 pub record AreMoves (moves : List (ℕ × Option ℕ)) (into taken : List (ℕ × ℕ)) (puts : List (ℕ × ℕ)) : Type 0 where
+  -- no node has two moves
   pub once : IsDistinct nat_eq (keys_of moves)
+  -- for each block the nodes that go into it are counted
   pub into_are : (b : ℕ) → counted into b ≡ into_count moves b
+  -- no more are taken from a block than there are moves
   pub few : (b : ℕ) → counted taken b ≤ length moves
+  -- each node that goes into a block was put into it
   pub put : (n b : ℕ) → lookup (nat_eq n) moves ≡ Some (Some b) → has_put puts n b ≡ true
 
 abbrev pub is_target : ℕ → Option (Option ℕ) → Bool

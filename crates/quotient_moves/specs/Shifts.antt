@@ -22,8 +22,11 @@ lead_count side block n x y neighbours = sum_by (λ m. one_if (leads side block 
 
 -- the partitions differ at n alone, which goes from one block to another
 pub record MovesNode (n own b : ℕ) (block block2 : List (Option ℕ)) : Type 0 where
+  -- it was in the one block
   pub before : at block n ≡ Some own
+  -- it is in the other
   pub after : at block2 n ≡ Some b
+  -- each other node is where it was
   pub others : (m : ℕ) → m ≢ n → at block2 m ≡ at block m
 
 -- one edge fewer leads between the first pair of blocks, and one more between the second

@@ -19,7 +19,8 @@ use Rattle.script_interpreter.specs.States.{State}
 
 -- what is printed of a query of any language, and whether that is a refusal
 pub data ShowsAnswers (printing : Printing) (s : State) (q : Query) : Via → List ℕ → Bool → Type 0 where
-  answered : (via : Via) (how : How) (nodes : List ℕ) → IsAnswered s.graph s.kept via q how nodes → ShowsAnswers printing s q via (answer_text how (prints_nodes printing) nodes) false
+  answered : (via : Via) (how : How) (nodes : List ℕ) → IsAnswered s.graph s.kept via q how nodes
+      → ShowsAnswers printing s q via (answer_text how (prints_nodes printing) nodes) false
   not_asked : (via : Via) → via ≢ Data → is_kept s.kept via ≡ false → ShowsAnswers printing s q via (refused_line NoIndex) true
 
 -- what `extents` prints through an index, and whether that is a refusal

@@ -7,10 +7,15 @@ use Rattle.script_interpreter.specs.Runs.{Progress, IsRun, IsRunPrefix}
 
 -- A run of the script was written, and `Last` holds of the last state of this same run.
 pub record WritesRun (rules : Rules) (first : State) (script : List ℕ) (old new : Option (List ℕ)) (status : ℕ) (Last : State → Type 0) : Type 0 where
+  -- what the run prints
   pub output : List ℕ
+  -- how far it came
   pub last : Progress
+  -- this, and nothing else, was written
   pub written : Appends old new output
+  -- it is a run of the script with this output, this status and this end
   pub is_run : IsRun rules first script output status last
+  -- `Last` holds of the state at its end
   pub ends_in : Last last.state
 
 -- a run of the script was written, if the script is observable

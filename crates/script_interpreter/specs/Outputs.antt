@@ -3,6 +3,7 @@ use Rattle.std.specs.Prelude.{ℕ, Bool, ◌||◌, List, ◌++◌}
 use Rattle.script_interpreter.specs.declared.printing.Printing.{Printing}
 
 pub record Gathered : Type 0 where
+  -- how much is printed
   pub printing : Printing
   -- what was printed and isn't written yet
   pub text : List ℕ

@@ -10,20 +10,29 @@ use Rattle.index_file.specs.SavedIndexes.{SavesIndexes}
 
 -- a text that is right was written
 pub record Wrote (Is : List ℕ → Type 0) (old new : Option (List ℕ)) : Type 0 where
+  -- what was written
   pub text : List ℕ
+  -- it is right
   pub is : Is text
+  -- it was written whole
   pub written : Appends old new text
 
 -- some prefix of one was
 pub record WrotePart (Is : List ℕ → Type 0) (old new : Option (List ℕ)) : Type 0 where
+  -- the text that was being written
   pub text : List ℕ
+  -- it is right
   pub is : Is text
+  -- a prefix of it was written
   pub written : AppendsPrefix old new text
 
 -- the first of what is left was written, and the rest is left
 pub record WroteNext (old new : Option (List ℕ)) (left rest : List ℕ) : Type 0 where
+  -- what was written
   pub text : List ℕ
+  -- it was written whole
   pub written : Appends old new text
+  -- it came first in what was left, and the rest is left now
   pub left_is : left ≡ text ++ rest
 
 -- the lines of the graph, which say so many views, and then the views with levels up to k

@@ -7,7 +7,9 @@ use Rattle.script_interpreter.specs.declared.printing.Printing.TheVariants.{Whol
 
 -- the limits that changes and expressions must keep, and how much is printed
 pub record Rules : Type 0 where
+  -- the limits that changes and expressions must keep
   pub limits : Limits
+  -- how much is printed
   pub printing : Printing
 
 -- with the limits of the program

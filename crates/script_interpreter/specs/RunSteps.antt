@@ -24,7 +24,9 @@ use Rattle.script_interpreter.specs.Runs.{Progress, Group, Makes, Obeys, TakesLi
 
 -- the new text begins with the old one
 pub record Extends (old new : List ℕ) : Type 0 where
+  -- what was added
   pub rest : List ℕ
+  -- it stands after the old text
   pub new_is : new ≡ old ++ rest
 
 -- the command that asks a query through this
@@ -41,37 +43,55 @@ IsAlone c = ⊤
 
 -- a change was made, or refused, and what it prints is gathered
 pub record Changed (scope : Scope) (s : State) (c : List Step) (old : Gathered) (refuses : Bool) (t : State) (new : Gathered) : Type 0 where
+  -- what the change prints
   pub printed : List ℕ
+  -- the change was made or refused, and prints this
   pub makes : Makes (rules_for old.printing) scope s c printed refuses t
+  -- it is added to what was gathered
   pub gathered_is : new ≡ with_printed old printed refuses
 
 -- a command was carried out, and what it prints is gathered
 pub record Obeyed (s : State) (c : Command) (old : Gathered) (t : State) (new : Gathered) : Type 0 where
+  -- what the command prints, and whether that is a refusal
   pub printed : List ℕ
   pub refuses : Bool
+  -- the command does so in this state
   pub obeys : Obeys (rules_for old.printing) s c printed refuses t
+  -- what it prints is added to what was gathered
   pub gathered_is : new ≡ with_printed old printed refuses
 
 -- a line was taken, and what it prints is gathered
-pub record IsTaken (s : State) (number : ℕ) (line : List ℕ) (group : Option Group) (old : Gathered) (t : State) (left : Option Group) (new : Gathered) : Type 0 where
+pub record IsTaken (s : State) (number : ℕ) (line : List ℕ) (group : Option Group) (old : Gathered)
+    (t : State) (left : Option Group) (new : Gathered) : Type 0 where
+  -- what the line prints, and whether that is a refusal
   pub printed : List ℕ
   pub refuses : Bool
+  -- the line does so where it stands
   pub takes : TakesLine (rules_for old.printing) s number line group printed refuses t left
+  -- what it prints is added to what was gathered
   pub gathered_is : new ≡ with_printed old printed refuses
 
 -- nothing was gathered, and the state is as it was, since the line is bad
 pub record IsLeft (s : State) (line : List ℕ) (group : Option Group) (old : Gathered) (t : State) (new : Gathered) : Type 0 where
+  -- the line may not stand there
   pub bad : IsBadIn program_limits group line
+  -- the state is as it was
   pub state : t ≡ s
+  -- so is what was gathered
   pub gathered_is : new ≡ old
 
 -- The line is `save` and stands in no group. Nothing was gathered, and the state is as it was: the file is to be written.
 pub record IsDue (s : State) (line : List ℕ) (group : Option Group) (old : Gathered) (t : State) (left : Option Group) (new : Gathered) : Type 0 where
+  -- the line is `save`
   pub spelled : IsSpelled line save
+  -- it asks with no expression that passes a limit
   pub free : ¬ PassesLimit program_limits line
+  -- no group is open, before or after
   pub outside : group ≡ None
   pub left_is : left ≡ None
+  -- the state is as it was
   pub state : t ≡ s
+  -- so is what was gathered
   pub gathered_is : new ≡ old
 
 -- what a line comes to
@@ -111,9 +131,12 @@ OnTaken AtEnd P = ⊤
 
 -- the reader can read on
 pub record CanRead (r : ReaderState) (is_open : Bool) : Type 0 where
+  -- no read has failed
   pub ready : r.failed ≡ false
+  -- the limits are those on a line and on a script
   pub line_limit : r.line_limit ≡ LINE_BYTES
   pub text_limit : r.text_limit ≡ SCRIPT_BYTES
+  -- a file is open
   pub open_file : IsTrue is_open
 
 -- a prefix of what was gathered is written, and the rest is left

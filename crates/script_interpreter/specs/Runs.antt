@@ -29,12 +29,19 @@ use Rattle.script_read.specs.Commands.{Command, change, begin, end, insert, dele
 -- An accepted change leads from the state s to t, whose graph is h. The same indexes are kept, and no number of a term or a triple
 -- changes. A change whose steps are all idle leaves the whole state. Each other one moves the blocks of the 1-index, if it is kept, by one step.
 pub record IsChanged (s : State) (c : List Step) (h : Graph) (t : State) : Type 0 where
+  -- the new graph is h
   pub graph : t.graph ≡ h
+  -- terms and triples keep their numbers
   pub names : t.names ≡ s.names
+  -- the same kinds of indexes are kept
   pub kinds : t.kept.kinds ≡ s.kept.kinds
+  -- with the same highest level
   pub level : t.kept.k ≡ s.kept.k
+  -- where all steps are idle, the whole state stays
   pub same : is_new c s.graph ≡ false → t ≡ s
+  -- where some step isn't, the 1-index, if it is kept, moves by one step
   pub step : is_new c s.graph ≡ true → IsTrue (keeps s One) → OneStep s.graph s.kept.one c h t.kept.one
+  -- where it isn't kept, what the state has as its blocks stays
   pub none : keeps s One ≡ false → t.kept.one ≡ s.kept.one
 
 -- what a change makes of the state, by its outcome: a refusal leaves it
@@ -44,25 +51,34 @@ Becomes s c (Err r) t = t ≡ s
 
 -- A change, which is a line of its own or a group, may print this, which is a refusal or not, and lead to that state.
 pub record Makes (rules : Rules) (scope : Scope) (s : State) (c : List Step) (printed : List ℕ) (refuses : Bool) (t : State) : Type 0 where
+  -- the state is the one after the change; a refused change leaves it as it was
   pub becomes : Becomes s c (apply c s.graph rules.limits) t
+  -- the reply to the change is printed
   pub printed_is : printed ≡ reply rules.printing scope c s.graph (apply c s.graph rules.limits)
+  -- it is a refusal exactly where the change is refused
   pub refuses_is : refuses ≡ is_err (apply c s.graph rules.limits)
 
 -- An insert of a triple may do so too. Its steps are made as those of a group are. If they are accepted, the parts of the triple have
 -- the numbers of their nodes from then on; no other number changes.
 pub record Inserts (rules : Rules) (s : State) (x : Triple) (printed : List ℕ) (refuses : Bool) (t : State) : Type 0 where
+  -- the steps that the triple lacks are made as one change, and printed as those of a group are
   pub makes : Makes rules OfGroup s (insert_steps s.names s.graph x) printed refuses (record t { names = s.names })
+  -- a refusal leaves all numbers; else the parts of the triple have the numbers of their nodes, and the other numbers stay
   pub names : AreSameNames t.names (if refuses then s.names else noted x (placed_in s.names s.graph x) s.names)
 
 -- A command in a state may print this, which is a refusal or not, and lead to that state.
 pub data Obeys (rules : Rules) (s : State) : Command → List ℕ → Bool → State → Type 0 where
-  changes : (x : Step) (printed : List ℕ) (refuses : Bool) (t : State) → Makes rules OfLine s (x ∷ []) printed refuses t → Obeys rules s (change x) printed refuses t
-  inserts : (x : Triple) (printed : List ℕ) (refuses : Bool) (t : State) → Inserts rules s x printed refuses t → Obeys rules s (insert x) printed refuses t
-  deletes : (x : Triple) (c : List Step) (printed : List ℕ) (refuses : Bool) (t : State) → delete_change s.names s.graph x ≡ Some c → Makes rules OfGroup s c printed refuses t
-      → Obeys rules s (delete x) printed refuses t
+  changes : (x : Step) (printed : List ℕ) (refuses : Bool) (t : State) → Makes rules OfLine s (x ∷ []) printed refuses t
+      → Obeys rules s (change x) printed refuses t
+  inserts : (x : Triple) (printed : List ℕ) (refuses : Bool) (t : State) → Inserts rules s x printed refuses t
+      → Obeys rules s (insert x) printed refuses t
+  deletes : (x : Triple) (c : List Step) (printed : List ℕ) (refuses : Bool) (t : State) → delete_change s.names s.graph x ≡ Some c
+      → Makes rules OfGroup s c printed refuses t → Obeys rules s (delete x) printed refuses t
   misses : (x : Triple) → delete_change s.names s.graph x ≡ None → Obeys rules s (delete x) (refused_line NoNode) true s
-  asks_path : (via : Via) (e : Expr) (text : List ℕ) (refuses : Bool) → ShowsAnswers rules.printing s (query.path e) via text refuses → Obeys rules s (path via e) text refuses s
-  asks_branch : (via : Via) (q : Branch) (text : List ℕ) (refuses : Bool) → ShowsAnswers rules.printing s (query.branch q) via text refuses → Obeys rules s (branch via q) text refuses s
+  asks_path : (via : Via) (e : Expr) (text : List ℕ) (refuses : Bool) → ShowsAnswers rules.printing s (query.path e) via text refuses
+      → Obeys rules s (path via e) text refuses s
+  asks_branch : (via : Via) (q : Branch) (text : List ℕ) (refuses : Bool) → ShowsAnswers rules.printing s (query.branch q) via text refuses
+      → Obeys rules s (branch via q) text refuses s
   explains : (v : ℕ) (e : Expr) (text : List ℕ) (refuses : Bool) → ShowsWhy s v e text refuses → Obeys rules s (why v e) text refuses s
   checks : (nodes : List ℕ) (e : Expr) (text : List ℕ) → ShowsCheck s nodes e text → Obeys rules s (check nodes e) text false s
   lists : (via : Via) (text : List ℕ) (refuses : Bool) → ShowsExtents s via text refuses → Obeys rules s (extents via) text refuses s
@@ -101,6 +117,7 @@ pub data TakesLine (rules : Rules) (s : State) (number : ℕ) (line : List ℕ) 
 
 -- how far a run has come
 pub record Progress : Type 0 where
+  -- the state after the lines so far
   pub state : State
   -- the group that isn't ended, if the lines so far end in one
   pub group : Option Group
@@ -123,10 +140,15 @@ IsWithinScript p l = (length l.text ≤ LINE_BYTES) × (bytes_with p l ≤ SCRIP
 
 -- From here the line may print this and lead there.
 pub record RunsLine (rules : Rules) (p : Progress) (l : Line) (printed : List ℕ) (q : Progress) : Type 0 where
+  -- the line and the script up to its end are within their limits
   pub within : IsWithinScript p l
+  -- whether it prints a refusal
   pub refuses : Bool
+  -- it is taken where it stands, outside a group or in one
   pub takes : TakesLine rules p.state (p.lines + 1) l.text p.group printed refuses q.state q.group
+  -- some line so far printed a refusal exactly if one did before or this one does
   pub refused : q.refused ≡ (p.refused || refuses)
+  -- one more line was taken, with its bytes
   pub lines : q.lines ≡ p.lines + 1
   pub bytes : q.bytes ≡ bytes_with p l
 
@@ -171,11 +193,16 @@ pub record IsRun (rules : Rules) (first : State) (script output : List ℕ) (sta
   -- the lines that are taken, and the others
   pub before : List Line
   pub left : List Line
+  -- what the lines print that are taken, and what is printed where the run ends
   pub printed : List ℕ
   pub ending : List ℕ
+  -- the lines of the script are those that are taken, and then the others
   pub script_is : cut script ≡ before ++ left
+  -- the first ones are taken in order, from the first state on
   pub takes : RunsLines rules (start first) before printed last
+  -- there the run ends: no line is left, or the next one is bad
   pub ends : EndsRun rules last left ending status
+  -- the output is what the lines print, and then what the end prints
   pub output_is : output ≡ printed ++ ending
 
 -- the next line is taken, and prints this
@@ -193,14 +220,21 @@ PrintsPrefix rules p left prefix = (prefix ≡ []) ⊎ ((rest : List ℕ) × Pri
 
 -- A prefix of what the lines print: all that some first lines print, and a prefix of what comes next prints.
 pub record RunsPrefix (rules : Rules) (p : Progress) (lines : List Line) (output : List ℕ) : Type 0 where
+  -- the lines that are taken, and the others
   pub before : List Line
   pub left : List Line
+  -- all that the former print, and a prefix of what comes after them prints
   pub printed : List ℕ
   pub prefix : List ℕ
+  -- how far the run has come after the lines that are taken
   pub last : Progress
+  -- the lines are those that are taken, and then the others
   pub lines_are : lines ≡ before ++ left
+  -- the first ones are taken in order
   pub takes : RunsLines rules p before printed last
+  -- the prefix is nothing, or begins what the next line or the end of the run prints
   pub next : PrintsPrefix rules last left prefix
+  -- the output is what the lines print, and then this prefix
   pub output_is : output ≡ printed ++ prefix
 
 -- a prefix of what a run of the script prints

@@ -12,6 +12,7 @@ use Rattle.triple_names.specs.Names.{Names, AreSameNames}
 
 -- what commands change or ask
 pub record State : Type 0 where
+  -- the graph as it is now
   pub graph : Graph
   -- the indexes that are kept: their kinds, the highest level of the A(k)-family, and the blocks of the 1-index
   pub kept : KeptIndexes
@@ -25,11 +26,17 @@ keeps s kind = has_kind s.kept.kinds kind
 -- A state with which a run begins: this graph, these numbers of terms and triples, and indexes of these kinds with levels up to k.
 -- The blocks of the 1-index, if it is kept, are full bisimilarity.
 pub record BeginsRun (g : Graph) (n : Names) (given : List Kind) (k : ℕ) (s : State) : Type 0 where
+  -- the graph is this one
   pub graph : s.graph ≡ g
+  -- terms and triples have these numbers
   pub names : AreSameNames s.names n
+  -- indexes of just these kinds are kept
   pub kinds : s.kept.kinds ≡ given
+  -- their highest level is k
   pub level : s.kept.k ≡ k
+  -- the 1-index, where it is kept, shows full bisimilarity
   pub one : IsTrue (keeps s One) → Agrees (shape_of g) s.kept.one (Bisim (shape_of g))
+  -- where it isn't kept, the state has no blocks of it
   pub none : keeps s One ≡ false → s.kept.one ≡ []
 
 -- the kinds other than that one

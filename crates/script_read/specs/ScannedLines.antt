@@ -45,7 +45,9 @@ IsWhole c = Unit {0}
 
 -- a first word, but of no change
 pub record OpensOther (word : List ℕ) : Type 0 where
+  -- the word doesn't begin a blank line or a comment
   pub loud : ¬ OpensNothing word
+  -- nor is it the first word of a change
   pub no_node : word ≢ codes "node"
   pub no_link : word ≢ codes "link"
   pub no_unlink : word ≢ codes "unlink"
@@ -54,7 +56,9 @@ pub record OpensOther (word : List ℕ) : Type 0 where
 
 -- nor is it the first word of a line that asks with an expression
 pub record OpensReport (word : List ℕ) : Type 0 where
+  -- it is no first word of a change
   pub other : OpensOther word
+  -- nor one of these
   pub no_path : word ≢ codes "path"
   pub no_branch : word ≢ codes "branch"
   pub no_why : word ≢ codes "why"
@@ -62,7 +66,9 @@ pub record OpensReport (word : List ℕ) : Type 0 where
 
 -- nor is it the first word of a line that asks for lists, sizes or a file, or forgets an index
 pub record OpensGroup (word : List ℕ) : Type 0 where
+  -- it is no first word of those above
   pub report : OpensReport word
+  -- nor one of these
   pub no_extents : word ≢ codes "extents"
   pub no_sizes : word ≢ codes "sizes"
   pub no_save : word ≢ codes "save"
@@ -70,7 +76,9 @@ pub record OpensGroup (word : List ℕ) : Type 0 where
 
 -- nor that of a line that begins or ends a group
 pub record OpensTriple (word : List ℕ) : Type 0 where
+  -- it is no first word of those above
   pub group : OpensGroup word
+  -- nor one of these
   pub no_begin : word ≢ codes "begin"
   pub no_end : word ≢ codes "end"
 

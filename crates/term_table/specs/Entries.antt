@@ -15,9 +15,11 @@ entry_at entries i = slice_index_or entries i no_entry
 
 -- the texts lie in order, below the bound
 pub record AreWithin (bound : ℕ) (s : TermRange) : Type 0 where
+  -- the text, the datatype and the tag lie one behind another
   pub text : s.from ≤ s.text_end
   pub datatype : s.text_end ≤ s.datatype_end
   pub tag : s.datatype_end ≤ s.to
+  -- and end within the bound
   pub end : s.to ≤ bound
 
 abbrev pub text_in : List ℕ → TermRange → List ℕ
@@ -31,6 +33,7 @@ tag_in arena s = slice_range arena s.datatype_end s.to
 
 -- the texts that lie there are those of the parts
 pub record HasTexts (arena : List ℕ) (s : TermRange) (p : Parts) : Type 0 where
+  -- the text, the datatype and the tag are those of the parts
   pub text : text_in arena s ≡ p.text
   pub datatype : datatype_in arena s ≡ p.datatype
   pub tag : tag_in arena s ≡ p.tag
@@ -47,11 +50,17 @@ terms_of arena entries = map (λ e. (term_of (parts_in arena e), e.number)) entr
 
 -- what every table keeps: distinct terms, with the hashes of their parts
 pub record IsTermTable (arena : List ℕ) (index : Items Entry) : Type 0 where
+  -- there is a hash for each term
   pub even : length index.hashes ≡ length index.items
+  -- the texts have fewer than 2^32 bytes
   pub short : length arena < 2 ^ 32
+  -- those of each term lie within them
   pub within : (i : ℕ) → i < length index.items → AreWithin (length arena) (entry_at index.items i).span
+  -- its hash is that of its parts
   pub hashed : (i : ℕ) → i < length index.items → hash_at index.hashes i ≡ hash_of (parts_in arena (entry_at index.items i))
+  -- its parts are those that the term of these parts has
   pub proper : (i : ℕ) → i < length index.items → parts_of (term_of (parts_in arena (entry_at index.items i))) ≡ parts_in arena (entry_at index.items i)
+  -- no two terms have the same parts
   pub apart : (i j : ℕ) → i < length index.items → j < length index.items → parts_in arena (entry_at index.items i) ≡ parts_in arena (entry_at index.items j) → i ≡ j
 
 -- no entry has these parts

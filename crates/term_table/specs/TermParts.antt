@@ -9,8 +9,11 @@ use Rattle.term_table.specs.declared.parts.Sort.TheVariants as sort
 use Rattle.term_table.specs.declared.parts.Parts.{Parts as PartsSeen}
 
 pub record Parts : Type 0 where
+  -- what kind of term it is
   pub sort : Sort
+  -- its IRI, blank node label or string
   pub text : List ℕ
+  -- of a literal its datatype, and its tag
   pub datatype : List ℕ
   pub tag : List ℕ
 

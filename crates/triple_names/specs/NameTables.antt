@@ -64,22 +64,32 @@ IsSetAtKey k number later new = (q : Key) → lookup (same_key q) new ≡ (if sa
 
 -- the term stands there, and a number of its own can be noted
 pub record HasPlace (terms : List (Term × ℕ)) (later : List (ℕ × Option ℕ)) (x : Term) (n : ℕ) : Type 0 where
+  -- the term stands at place n
   pub place : place_in terms x ≡ Some n
+  -- a later number of its own can be noted there
   pub reserved : IsSome (lookup (nat_eq n) later)
 
 -- numbers of the terms of the key can be noted
 pub record HasPlaces (later : List (ℕ × Option ℕ)) (k : Key) : Type 0 where
+  -- a later number can be noted for the subject
   pub subject : IsSome (lookup (nat_eq k.subject) later)
+  -- and for the object
   pub object : IsSome (lookup (nat_eq k.object) later)
 
 -- there may be more terms and more places for numbers, and the numbers are as they were
 pub record NumbersStay (terms : List (Term × ℕ)) (later : List (ℕ × Option ℕ)) (terms2 : List (Term × ℕ)) (later2 : List (ℕ × Option ℕ)) : Type 0 where
+  -- new terms stand behind the others
   pub grows : Begins terms terms2
+  -- each term has the number that it had
   pub numbers : (x : Term) → term_number terms2 later2 x ≡ term_number terms later x
+  -- each place for a later number is there still
   pub places : (n : ℕ) → IsSome (lookup (nat_eq n) later) → IsSome (lookup (nat_eq n) later2)
 
 -- what the tables of names keep
 pub record AreNameTables (terms : List (Term × ℕ)) (predicates : List (List ℕ)) (entries : List (Key × ℕ)) (later_terms : List (ℕ × Option ℕ)) (later_triples : List (Key × Option ℕ)) : Type 0 where
+  -- the places of each triple are those of a term, a predicate and a term
   pub known : AreKeysIn terms predicates entries
+  -- so are those of the triples with later numbers
   pub later : AreKeysIn terms predicates later_triples
+  -- and later numbers of their terms can be noted
   pub places : AllByRecursion (λ e. HasPlaces later_terms e.0) later_triples

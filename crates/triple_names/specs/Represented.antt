@@ -28,8 +28,11 @@ is_among s t = list_any (same_triple t) s
 -- The graph with the names represents the triples, which are distinct and can all be spelled: its nodes are their subjects, their
 -- objects and the triples themselves, and its edges lead from each subject to the triple and on to the object.
 pub record Represents (g : Graph) (n : Names) (s : List Triple) : Type 0 where
+  -- no triple stands twice
   pub distinct : IsDistinct same_triple s
+  -- each can be spelled
   pub spelled : (t : Triple) → IsTrue (is_among s t) → IsSpelled t
+  -- the live nodes are just their terms and the triples, and the edges lead from subjects to triples to objects
   pub image : IsImage g (number_in n) (has_item s) (has_join s)
 
 -- the triples, and this one behind them where it is new

@@ -45,6 +45,7 @@ triple_at terms predicates k = record { subject = term_at terms k.subject; predi
 
 -- what stands at the places of the key stands nowhere before them
 pub record IsKeyIn (terms : List (Term × ℕ)) (predicates : List (List ℕ)) (k : Key) : Type 0 where
+  -- what stands at each of the three places stands nowhere before it
   pub subject : place_in terms (term_at terms k.subject) ≡ Some k.subject
   pub predicate : position (bytes_eq (predicate_at predicates k.predicate)) predicates ≡ Some k.predicate
   pub object : place_in terms (term_at terms k.object) ≡ Some k.object
@@ -54,6 +55,7 @@ AreKeysIn terms predicates entries = AllByRecursion (λ e. IsKeyIn terms predica
 
 -- the parts of the triple stand at the places of the key
 pub record HasKey (terms : List (Term × ℕ)) (predicates : List (List ℕ)) (t : Triple) (k : Key) : Type 0 where
+  -- the subject, the predicate and the object each stand at their place
   pub subject : place_in terms t.subject ≡ Some k.subject
   pub predicate : position (bytes_eq t.predicate) predicates ≡ Some k.predicate
   pub object : place_in terms t.object ≡ Some k.object

@@ -12,7 +12,9 @@ Body P e rest v tail = (s : List ℕ) × (rest ≡ encodes s ++ e ∷ tail) × M
 
 -- the characters cs are read from the one rest to the other
 pub record Step (P : List ℕ → ℕ → Type 0) (e : ℕ) (rest after cs : List ℕ) : Type 0 where
+  -- a body that goes on after them is one with these characters in front
   pub sound : (v tail : List ℕ) → Body P e after v tail → Body P e rest (cs ++ v) tail
+  -- and each body here begins with them
   pub complete : (v tail : List ℕ) → Body P e rest v tail → (w : List ℕ) × (v ≡ cs ++ w) × Body P e after w tail
 
 -- some characters are read, and join the text

@@ -45,22 +45,29 @@ IsObject s (Literal text datatype tag) = IsLiteral s text datatype tag
 
 -- [2] triple: subject WS* predicate WS* object WS* '.'
 pub record IsTriple (s : List ℕ) (t : Triple) : Type 0 where
+  -- the parts of the text
   pub subject : List ℕ
   pub gap : List ℕ
   pub predicate : List ℕ
   pub gap2 : List ℕ
   pub object : List ℕ
   pub gap3 : List ℕ
+  -- they stand in this order, with a dot (46) behind them
   pub whole : s ≡ subject ++ (gap ++ (predicate ++ (gap2 ++ (object ++ (gap3 ++ 46 ∷ [])))))
+  -- only blanks stand between them
   pub gaps : Blanks gap × Blanks gap2 × Blanks gap3
+  -- each spells its part of the triple
   pub is_subject : IsSubject subject t.subject
   pub is_predicate : IsIri predicate t.predicate
   pub is_object : IsObject object t.object
 
 -- the characters that the bytes are the UTF-8 of
 pub record TextOf (bytes : List ℕ) : Type 0 where
+  -- the characters
   pub chars : List ℕ
+  -- each is a Unicode scalar value
   pub scalars : all_scalars chars ≡ true
+  -- the bytes are their UTF-8
   pub encoded : bytes ≡ encode_utf8_all chars
 
 -- a line with a triple: WS* triple WS* comment?

@@ -32,16 +32,25 @@ ForkedInto at layer s c = (k : ℕ) × Among layer k c × ForkedTo at s k
 -- those of the layers.
 pub record IsLayeredBy (at : ℕ → Option State) (size : ℕ) (label_at : ℕ → Option ℕ) (edge : ℕ → ℕ → Bool) (v : ℕ)
     (layers : List (List Pair)) (rows : List BitSet) : Type 0 where
+  -- there is a layer
   pub some : 0 < length layers
+  -- each marked pair is in a layer
   pub marked : (s c : ℕ) → IsMarked rows s c → (i : ℕ) × (i < length layers) × Among (layer_at layers i) s c
+  -- each pair of a layer is marked
   pub marks : (i s c : ℕ) → i < length layers → Among (layer_at layers i) s c → IsMarked rows s c
+  -- no pair is in two layers
   pub once : (i j s c : ℕ) → i < length layers → j < length layers → Among (layer_at layers i) s c → Among (layer_at layers j) s c → i ≡ j
+  -- from each pair of layer i on, i nodes are read to the end
   pub sound : (i s c : ℕ) → i < length layers → Among (layer_at layers i) s c
       → (nodes : List ℕ) × (length nodes ≡ i) × Way at size label_at edge v s c nodes
+  -- it is of a state and a place that there are
   pub place : (i s c : ℕ) → i < length layers → Among (layer_at layers i) s c → IsSome (at s) × IsPlace size label_at c
+  -- each state where a word ends is in the first layer, at the end
   pub ends : (s : ℕ) → at s ≡ Some End → Among (layer_at layers 0) s v
+  -- what leads to a pair without a label is in its layer or an earlier one
   pub forks : (i k s c : ℕ) → i < length layers → Among (layer_at layers i) k c → Enters (at s) k
       → (j : ℕ) × (j ≤ i) × Among (layer_at layers j) s c
+  -- what leads to it by a label is at most one layer later
   pub reads : (i k s c x : ℕ) → i + 1 < length layers → Among (layer_at layers i) k x → Takes label_at (at s) x k
       → IsTrue (leads size label_at edge c x)
       → (j : ℕ) × (j ≤ i + 1) × Among (layer_at layers j) s c
@@ -49,7 +58,9 @@ pub record IsLayeredBy (at : ℕ → Option State) (size : ℕ) (label_at : ℕ 
 -- it is read, and comes before each other list that is
 pub record IsLeastWayBy (at : ℕ → Option State) (size : ℕ) (label_at : ℕ → Option ℕ) (edge : ℕ → ℕ → Bool) (v start : ℕ)
     (nodes : List ℕ) : Type 0 where
+  -- the nodes are read from the state on
   pub way : Way at size label_at edge v start size nodes
+  -- each other list that is read comes after it
   pub least : (others : List ℕ) → Way at size label_at edge v start size others → (others ≡ nodes) ⊎ Before nodes others
 
 -- this state reads the label of the node and goes on to the given one, and its place leads to the node

@@ -100,7 +100,7 @@ pub fn find_in<G: Digraph>(
 /// The least walk that ends in the node and whose word matches: the shortest, and of several of that length the one
 /// with the least first node, then the least second one, and so on. It may have a node more than once. None comes
 /// exactly where the node is no answer. `Memory` comes only where memory runs out. Time and memory are those of
-/// `find_in`; it costs one view.
+/// `find_in`; it reads the whole graph once.
 pub fn find<L: Ledger>(
     alloc: Global,
     g: &Graph,
