@@ -1,18 +1,18 @@
 -- What a key that was written by the sides that count says of its node.
-use Rattle.std.proofs.Common.{◌≡◌, ℕ, List, [], ◌∷◌, ◌++◌, Option, Some, None, IsTrue, refl, sym, ◌∙◌, ap, subst, true, filter_map, option_map, inl, inr, true≢false}
+use Rattle.std.proofs.Common.{◌≡◌, ℕ, List, [], ◌++◌, Option, Some, None, IsTrue, refl, sym, ◌∙◌, ap, true, filter_map, option_map, inl, inr, true≢false}
 use Rattle.std.specs.Prelude.{◌||◌, nat_eq}
-use Rattle.std.specs.List.{insert, cons_option}
+use Rattle.std.specs.List.{insert}
 use Rattle.std.proofs.lemmas.List.Folds.{list_any-append}
 use Rattle.std.proofs.lemmas.Bool.{or_cases, or_left, or_right}
 use Rattle.graph_spec.specs.Members.{has, at, Lists}
 use Rattle.graph_spec.specs.Shapes.{Shape}
-use Rattle.graph_spec.proofs.MemberLaws.{has_cases, has_head, has_tail}
 use Rattle.bisim_spec.specs.declared.sides.Side.{Side}
 use Rattle.bisim_spec.specs.declared.sides.Side.TheVariants as side
 use Rattle.bisim_spec.specs.declared.sides.Sides.{Sides}
 use Rattle.bisim_spec.specs.declared.sides.Sides.TheVariants as sides
 use Rattle.bisim_spec.specs.SidedLevels.{counts, beside}
 use Rattle.bisim_spec.specs.NodeKeys.{IsSetOf, IsWritten}
+use Rattle.bisim_spec.proofs.RisingLists.{mapped, maps}
 use Rattle.bisim_levels.specs.SidedKeys.{side_mark, marked, on_side, ListNeighbours, IsListed, IsWrittenBy, IsAround, IsKeyBy}
 
 -- a key of parents alone
@@ -29,29 +29,6 @@ written_parents f parents children key number w = record {
     every : (d : Side) (c : ℕ) → IsListed sides.Parents d f (on_side parents children d) c → IsTrue (has w.around c)
     every side.Parents c l = ap (has w.around) l.is ∙ w.images.every l.node l.block l.listed l.has_block
     every side.Children c l = absurd (true≢false (sym l.counted))
-
-mapped : (f : ℕ → Option ℕ) (ps : List ℕ) (b : ℕ) → has (filter_map f ps) b ≡ true → (p : ℕ) × (has ps p ≡ true) × (f p ≡ Some b)
-mapped f [] b h = absurd (true≢false (sym h))
-mapped f (p ∷ ps) b h = by (f p) refl h (mapped f ps b)
-  where
-    by : (o : Option ℕ) → f p ≡ o → has (cons_option o (filter_map f ps)) b ≡ true
-        → (has (filter_map f ps) b ≡ true → (q : ℕ) × (has ps q ≡ true) × (f q ≡ Some b)) → (q : ℕ) × (has (p ∷ ps) q ≡ true) × (f q ≡ Some b)
-    by None e m rec = let r = rec m in (r.0, has_tail p ps r.0 r.1, r.2)
-    by (Some c) e m rec = elim (has_cases c (filter_map f ps) b m) [
-      | inl same ↦ (p, has_head p ps, e ∙ ap Some (sym same))
-      | inr t ↦ let r = rec t in (r.0, has_tail p ps r.0 r.1, r.2)
-    ]
-
-maps : (f : ℕ → Option ℕ) (ps : List ℕ) (p b : ℕ) → has ps p ≡ true → f p ≡ Some b → has (filter_map f ps) b ≡ true
-maps f [] p b h e = absurd (true≢false (sym h))
-maps f (q ∷ ps) p b h e = by (f q) refl (λ t. maps f ps p b t e)
-  where
-    by : (o : Option ℕ) → f q ≡ o → (has ps p ≡ true → has (filter_map f ps) b ≡ true) → has (cons_option o (filter_map f ps)) b ≡ true
-    by None z rec = elim (has_cases q ps p h) [ inl same ↦ absurd (let w = ap f same in cc) | inr t ↦ rec t ]
-    by (Some c) z rec = elim (has_cases q ps p h) [
-      | inl same ↦ (let w = ap f same in let is : c ≡ b = cc in subst (λ n. has (c ∷ filter_map f ps) n ≡ true) is (has_head c (filter_map f ps)))
-      | inr t ↦ has_tail c (filter_map f ps) b (rec t)
-    ]
 
 -- the number for a block that f gives
 marked_block : (d : Side) (o : Option ℕ) (c : ℕ) → option_map (side_mark d) o ≡ Some c → (b : ℕ) × (o ≡ Some b) × (c ≡ side_mark d b)

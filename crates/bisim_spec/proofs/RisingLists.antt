@@ -42,7 +42,8 @@ pub rising_unique : (xs ys : List ℕ) → IsStrictlyIncreasing xs → IsStrictl
     → ((b : ℕ) → has ys b ≡ true → has xs b ≡ true) → xs ≡ ys
 rising_unique xs ys rx ry = sorted_unique xs ys (sorted_from_strictly_increasing xs rx) (sorted_from_strictly_increasing ys ry)
 
-mapped : (f : ℕ → Option ℕ) (ps : List ℕ) (b : ℕ) → has (filter_map f ps) b ≡ true → (p : ℕ) × (has ps p ≡ true) × (f p ≡ Some b)
+-- a number among the images is that of a member
+pub mapped : (f : ℕ → Option ℕ) (ps : List ℕ) (b : ℕ) → has (filter_map f ps) b ≡ true → (p : ℕ) × (has ps p ≡ true) × (f p ≡ Some b)
 mapped f [] b h = absurd (true≢false (sym h))
 mapped f (p ∷ ps) b h = by (f p) refl h (mapped f ps b)
   where
@@ -54,7 +55,8 @@ mapped f (p ∷ ps) b h = by (f p) refl h (mapped f ps b)
       | inr t ↦ let r = rec t in (r.0, has_tail p ps r.0 r.1, r.2)
     ]
 
-maps : (f : ℕ → Option ℕ) (ps : List ℕ) (p b : ℕ) → has ps p ≡ true → f p ≡ Some b → has (filter_map f ps) b ≡ true
+-- the image of a member is among the images
+pub maps : (f : ℕ → Option ℕ) (ps : List ℕ) (p b : ℕ) → has ps p ≡ true → f p ≡ Some b → has (filter_map f ps) b ≡ true
 maps f [] p b h e = absurd (true≢false (sym h))
 maps f (q ∷ ps) p b h e = by (f q) refl (λ t. maps f ps p b t e)
   where

@@ -8,7 +8,8 @@ use Rattle.clap.specs.Simple.{Shape, built, entered}
 use Rattle.clap.specs.Walk.{Held, Rule, Step, Walk, after_step, finished, nothing_held, settled, walk, walk_from, walked, walked_from}
 use Rattle.command_line.specs.Arguments.{Arguments}
 use Rattle.command_line.specs.Usage.{IsPlainText}
-use Rattle.command_line.specs.Words.{command, arguments_in, is_no_fault, read}
+use Rattle.command_line.specs.SimpleCommands.{is_no_fault}
+use Rattle.command_line.specs.Words.{command, arguments_in, read}
 use Rattle.command_line.proofs.NoFlag.{NoFlag, met_as_value, met_without_fault, no_flag, value_met}
 
 -- ---- one word

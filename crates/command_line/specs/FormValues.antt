@@ -1,10 +1,7 @@
 -- What the code's values say, in the words of the definitions.
-use Rattle.std.specs.Prelude.{◌≡◌, ℕ, List, Option, Some, None, Result, IfOk, option_map, true, false}
-use Rattle.clap.specs.Words.{found_of, matches_of, rows_of}
-use Rattle.clap.specs.declared.parser.matches.ArgMatches.{ArgMatches}
+use Rattle.std.specs.Prelude.{◌≡◌, Result, IfOk, option_map}
 use Rattle.command_line.specs.Forms.{Form, Settings, runs, makes, checks, neither}
 use Rattle.command_line.specs.Arguments.{Arguments, arguments_form}
-use Rattle.command_line.specs.Words.{command, is_accepted}
 use Rattle.command_line.specs.declared.form.Form.{Form as FormSeen}
 use Rattle.command_line.specs.declared.form.Form.TheVariants.{Run, Make, Check, Neither}
 use Rattle.command_line.specs.declared.form.Settings.{Settings as SettingsSeen}
@@ -34,8 +31,3 @@ arguments_value g = record {
 -- the form that is read is the one that these texts and flags give
 abbrev pub IsReadAs : {E : Type 0} → Result FormSeen E → Arguments → Type 0
 IsReadAs result arguments = IfOk result (λ f. form_value f ≡ arguments_form arguments)
-
--- clap's matches of the words; none where it refuses them, and only there
-abbrev pub Matches : List (List ℕ) → Option ArgMatches → Type 0
-Matches words None = is_accepted words ≡ false
-Matches words (Some m) = (is_accepted words ≡ true) × (rows_of (found_of m) ≡ matches_of command words)

@@ -1,16 +1,11 @@
--- What the words of the command line say, by clap's definition of a simple command: `App` is what it is told of
--- a command, `fault_of` why it refuses words, and `matches_of` what it finds in them.
-use Rattle.std.specs.Prelude.{ℕ, Bool, true, false, List, [], ◌∷◌, Option, Some, None, if◌then◌else◌, codes, bytes_eq}
-use Rattle.clap.specs.Kinds.{Kinds}
+-- What the words of the command line say, by clap's definition of a simple command.
+use Rattle.std.specs.Prelude.{ℕ, Bool, true, false, List, Option, Some, None, codes, bytes_eq}
 use Rattle.clap.specs.Simple.{on_top}
 use Rattle.clap.specs.declared.builder.action.ArgAction.TheVariants.{SetTrue}
-use Rattle.clap.specs.Words.{App, Row, Rule, fault_of, first_of, matches_of, new_app, new_rule, with_rule}
+use Rattle.clap.specs.Words.{App, Row, Rule, first_of, new_app, new_rule, with_rule}
 use Rattle.command_line.specs.Forms.{Form, neither}
 use Rattle.command_line.specs.Arguments.{Arguments, arguments_form}
-
--- an option with one text: its word is the name behind two hyphens
-abbrev pub option_rule : List ℕ → Rule
-option_rule name = record (new_rule name) { long = Some name }
+use Rattle.command_line.specs.SimpleCommands.{accepts, option_rule, read_by}
 
 -- a flag: its word is the name behind two hyphens, and takes no text
 abbrev pub flag_rule : List ℕ → Rule
@@ -32,13 +27,9 @@ options = with_rule (with_rule texts (option_rule (codes "make"))) (option_rule 
 abbrev pub command : App
 command = with_rule (with_rule (with_rule options (flag_rule (codes "without-one"))) (flag_rule (codes "without-fb"))) (flag_rule (codes "with-bk"))
 
-abbrev pub is_no_fault : Kinds → Bool
-is_no_fault [] = true
-is_no_fault (k ∷ ks) = false
-
 -- clap takes the words, unless memory runs out
 abbrev pub is_accepted : List (List ℕ) → Bool
-is_accepted words = is_no_fault (fault_of command words)
+is_accepted = accepts command
 
 -- clap gives a flag that is there the text `true`
 abbrev pub is_set : Option (List ℕ) → Bool
@@ -60,7 +51,7 @@ arguments_in rows = record {
 
 -- what the words give, if clap takes them
 abbrev pub read : List (List ℕ) → Option Arguments
-read words = if is_accepted words then Some (arguments_in (matches_of command words)) else None
+read = read_by command arguments_in
 
 abbrev pub form_read : Option Arguments → Form
 form_read None = neither

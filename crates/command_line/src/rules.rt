@@ -1,7 +1,8 @@
 // What clap is told of the command line.
 ghost use Rattle.std.specs.Prelude.{◌≡◌, IfOk, codes, false};
 ghost use Rattle.clap.specs.Words.{app_of, new_rule, rule_of, with_rule};
-ghost use Rattle.command_line.specs.Words.{bare, command, flag_rule, option_rule, options, texts};
+ghost use Rattle.command_line.specs.SimpleCommands.{option_rule};
+ghost use Rattle.command_line.specs.Words.{bare, command, flag_rule, options, texts};
 
 use clap::{Arg, ArgAction, Command};
 use std::alloc::{AllocError, Global};

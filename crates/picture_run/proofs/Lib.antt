@@ -1,4 +1,3 @@
-pub mod ClapWords
 pub mod Numbers
 pub mod Bounds
 pub mod Drawings

@@ -1,14 +1,9 @@
--- What the words of the command line say, by clap's definition of a simple command: `App` is what it is told of
--- a command, `fault_of` why it refuses words, and `matches_of` what it finds in them.
-use Rattle.std.specs.Prelude.{ℕ, Bool, true, false, List, [], ◌∷◌, Option, Some, None, if◌then◌else◌, codes}
-use Rattle.clap.specs.Kinds.{Kinds}
+-- What the words of the command line say, by clap's definition of a simple command.
+use Rattle.std.specs.Prelude.{ℕ, true, List, Option, Some, None, codes}
 use Rattle.clap.specs.Simple.{on_top}
-use Rattle.clap.specs.Words.{App, Row, Rule, fault_of, first_of, matches_of, new_app, new_rule, with_rule}
+use Rattle.clap.specs.Words.{App, Row, first_of, new_app, new_rule, with_rule}
+use Rattle.command_line.specs.SimpleCommands.{option_rule, read_by}
 use Rattle.picture_run.specs.Settings.{Arguments, Settings, arguments_settings}
-
--- an option with one text: its word is the name behind two hyphens
-abbrev pub option_rule : List ℕ → Rule
-option_rule name = record (new_rule name) { long = Some name }
 
 -- the words are those after the program's name
 abbrev pub bare : App
@@ -22,14 +17,6 @@ graphs = with_rule (with_rule bare (new_rule (codes "graph"))) (option_rule (cod
 abbrev pub command : App
 command = with_rule (with_rule graphs (option_rule (codes "blocks"))) (option_rule (codes "members"))
 
-abbrev pub is_no_fault : Kinds → Bool
-is_no_fault [] = true
-is_no_fault (k ∷ ks) = false
-
--- clap takes the words, unless memory runs out
-abbrev pub is_accepted : List (List ℕ) → Bool
-is_accepted words = is_no_fault (fault_of command words)
-
 -- the texts, by what clap found for each argument
 abbrev pub arguments_in : List Row → Arguments
 arguments_in rows = record {
@@ -41,7 +28,7 @@ arguments_in rows = record {
 
 -- what the words give, if clap takes them
 abbrev pub read : List (List ℕ) → Option Arguments
-read words = if is_accepted words then Some (arguments_in (matches_of command words)) else None
+read = read_by command arguments_in
 
 abbrev pub settings_read : Option Arguments → Option Settings
 settings_read None = None

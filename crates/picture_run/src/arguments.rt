@@ -1,8 +1,9 @@
 // What stands on the command line, before it is judged.
 ghost use Rattle.std.specs.Prelude.{◌≡◌, IfOk, map, option_map, string_bytes};
 ghost use Rattle.clap.specs.Words.{first_of, found_of, rows_of};
-ghost use Rattle.picture_run.specs.Words.{arguments_in, read};
-ghost use Rattle.picture_run.specs.SettingsValues.{Matches, arguments_value};
+ghost use Rattle.command_line.specs.SimpleCommands.{Matches};
+ghost use Rattle.picture_run.specs.Words.{arguments_in, command, read};
+ghost use Rattle.picture_run.specs.SettingsValues.{arguments_value};
 
 use crate::rules::make_command;
 use clap::ArgMatches;
@@ -21,7 +22,7 @@ pub(crate) struct Arguments<'a> {
 
 // What clap makes of the words; none where it refuses them. Running out of memory is no refusal.
 fn matches<'a>(alloc: Global, words: &'a [String]) -> Result<Option<ArgMatches<'a>>, Memory>
-    ensures { IfOk result (Matches (map string_bytes words.entry.now)) }
+    ensures { IfOk result (Matches command (map string_bytes words.entry.now)) }
 {
     match make_command(alloc)?.try_get_matches_from(words) {
         Ok(matches) => Ok(Some(matches)),

@@ -1,7 +1,8 @@
 // What clap is told of the command line.
 ghost use Rattle.std.specs.Prelude.{◌≡◌, IfOk, codes, false};
 ghost use Rattle.clap.specs.Words.{app_of, new_rule, rule_of, with_rule};
-ghost use Rattle.picture_run.specs.Words.{bare, command, graphs, option_rule};
+ghost use Rattle.command_line.specs.SimpleCommands.{option_rule};
+ghost use Rattle.picture_run.specs.Words.{bare, command, graphs};
 
 use clap::{Arg, Command};
 use std::alloc::{AllocError, Global};

@@ -1,7 +1,10 @@
-//! Tests of the levels of bisimilarity in `bisim_levels`, and of the families of `ak_family`.
+//! Tests of the levels of bisimilarity in `bisim_levels`, of the families of `ak_family`, and of the indexes of
+//! `ak_maintain` and `fbk_index`.
 #![tactic(auto)]
 
 #[cfg(test)]
 mod families;
+#[cfg(test)]
+mod kept;
 #[cfg(test)]
 mod levels;

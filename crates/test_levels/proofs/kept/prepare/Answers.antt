@@ -1,5 +1,5 @@
 use Rattle.std.proofs.Common.{Ok, ap, ◌∙◌}
-use Rattle.fbk_index.proofs.tests.prepare.Goals as goal
+use Rattle.test_levels.proofs.kept.prepare.Goals as goal
 
 pub prepare_counted-requires-clause-new : goal.prepare_counted-requires-clause-new
 prepare_counted-requires-clause-new g c = c.judge.ensures.new (c.in-Ok-New.is ∙ ap Ok c.in-Ok-New.field-0-is)

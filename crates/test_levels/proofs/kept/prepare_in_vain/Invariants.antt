@@ -1,4 +1,4 @@
-use Rattle.fbk_index.proofs.tests.prepare_and_commit.Given as goal
+use Rattle.test_levels.proofs.kept.prepare_in_vain.Given as goal
 
 abbrev pub ghosts-prepare : goal.ghosts-prepare
 ghosts-prepare g a = record { name = a.blank.name; parts = a.blank.parts }

@@ -1,12 +1,13 @@
-// The levels of two chains, of which one gets a further parent.
+// Levels of two chains that are kept, by parents alone and by both sides, while one gets a further edge.
 ghost use Rattle.std.specs.Prelude.{◌≡◌, ◌<◌, IfOk, OnOk};
 ghost use Rattle.index_api.specs.Meanings.{IsReady, IsPrepared};
-ghost use Rattle.bisim_spec.specs.declared.sides.Sides.TheVariants.{Parents};
-ghost use Rattle.kept_levels.specs.KeptFamilies.{meaning_of};
 
-use super::*;
+use ak_maintain::ByParents;
+use fbk_index::ByBoth;
 use graph_update::{Change, Step, Verdict, judge};
 use index_api::PathIndex;
+use kept_index::{KeptIndex, KeptViews};
+use kept_levels::KeptLevels;
 use label_graph::Graph;
 use px_base::{Limits, NodeId, Steps};
 use quotient::Summary;
@@ -17,8 +18,29 @@ use std::sync::ledger::{Blank, Ledger};
 use std::test::Fail;
 use test_graphs::two_chains;
 
+// An edge that comes, and the nodes' letters at levels 1 and 2 after it.
+struct Row {
+    edge: (NodeId, NodeId),
+    first: &'static [u8; 7],
+    second: &'static [u8; 7],
+}
+
+// By parents: the a's part at level 1, and the b's at level 2.
+const PARENT: &Row = &Row {
+    edge: (6, 3),
+    first: b"abcdbcx",
+    second: b"abcdecx",
+};
+
+// By both sides: the c's part at level 1, and the b's at level 2.
+const CHILD: &Row = &Row {
+    edge: (5, 6),
+    first: b"abcabdx",
+    second: b"abcaedx",
+};
+
 // Whether the level has so many blocks.
-fn has_blocks(index: &AkIndex, level: u32, blocks: u32) -> bool {
+fn has_blocks(index: &impl PathIndex, level: u32, blocks: u32) -> bool {
     match index.summary(level) {
         Some(summary) => summary.blocks() == blocks,
         None => false,
@@ -52,7 +74,7 @@ fn all_agree(summary: &Summary, letters: &[u8; 7]) -> bool {
 }
 
 // Whether at the level the seven nodes are together exactly where their letters agree.
-fn is_parted(index: &AkIndex, level: u32, letters: &[u8; 7]) -> bool {
+fn is_parted(index: &impl PathIndex, level: u32, letters: &[u8; 7]) -> bool {
     match index.summary(level) {
         Some(summary) => all_agree(summary, letters),
         None => false,
@@ -60,23 +82,23 @@ fn is_parted(index: &AkIndex, level: u32, letters: &[u8; 7]) -> bool {
 }
 
 // At each level nodes with equal letters are together.
-fn check_before(rt: &impl Abort, index: &AkIndex) {
+fn check_before(rt: &impl Abort, index: &impl PathIndex) {
     assert!(rt; has_sizes(index, 4, 4, 4));
     assert!(rt; is_parted(index, 0, b"abcabcx"));
     assert!(rt; is_parted(index, 1, b"abcabcx"));
     assert!(rt; is_parted(index, 2, b"abcabcx"));
 }
 
-// The a's part at level 1, and the b's at level 2.
-fn check_after(rt: &impl Abort, index: &AkIndex) {
+// After the edge comes the same holds at level 0, and by the row's letters at levels 1 and 2.
+fn check_after(rt: &impl Abort, index: &impl PathIndex, row: &Row) {
     assert!(rt; has_sizes(index, 4, 5, 6));
     assert!(rt; is_parted(index, 0, b"abcabcx"));
-    assert!(rt; is_parted(index, 1, b"abcdbcx"));
-    assert!(rt; is_parted(index, 2, b"abcdecx"));
+    assert!(rt; is_parted(index, 1, row.first));
+    assert!(rt; is_parted(index, 2, row.second));
 }
 
 // Whether there are three levels, with so many blocks.
-fn has_sizes(index: &AkIndex, lowest: u32, middle: u32, highest: u32) -> bool {
+fn has_sizes(index: &impl PathIndex, lowest: u32, middle: u32, highest: u32) -> bool {
     has_blocks(index, 0, lowest)
         && has_blocks(index, 1, middle)
         && has_blocks(index, 2, highest)
@@ -84,22 +106,26 @@ fn has_sizes(index: &AkIndex, lowest: u32, middle: u32, highest: u32) -> bool {
 }
 
 // An index of the graph.
-fn built<L: Ledger>(alloc: Global, graph: &Graph, blank: Blank) -> Result<AkIndex, Fail>
+fn built<K: KeptViews, L: Ledger>(
+    alloc: Global,
+    graph: &Graph,
+    blank: Blank,
+) -> Result<KeptIndex<K>, Fail>
     requires name { blank.name ≡ L.name }
     requires parts { blank.parts ≡ L.parts }
     requires some { 0 < blank.parts }
-    ensures { IfOk result (λ index. IsReady (meaning_of Parents index.kept) graph.now.graph) }
+    ensures { IfOk result (λ index. IsReady (K.meaning_of index.kept) graph.now.graph) }
 {
     let mut steps = Steps::<L>::new(blank);
-    let mut index = AkIndex::new(alloc)?;
+    let mut index = KeptIndex::<K>::new(alloc)?;
     let view = graph.view(&mut steps);
     index.build(&view, 2)?;
     Ok(index)
 }
 
 // Prepares a change that alters the graph.
-fn prepare<L: Ledger>(
-    index: &mut AkIndex,
+fn prepare<K: KeptViews, L: Ledger>(
+    index: &mut KeptIndex<K>,
     graph: &Graph,
     change: &Change,
     blank: Blank,
@@ -107,8 +133,8 @@ fn prepare<L: Ledger>(
     requires name { blank.name ≡ L.name }
     requires parts { blank.parts ≡ L.parts }
     requires some { 0 < blank.parts }
-    requires ready { IsReady (meaning_of Parents index.old.kept) graph.now.graph }
-    ensures { OnOk result (IsPrepared (meaning_of Parents index.old.kept) (meaning_of Parents index.new.kept) change.now graph.now.graph) }
+    requires ready { IsReady (K.meaning_of index.old.kept) graph.now.graph }
+    ensures { OnOk result (IsPrepared (K.meaning_of index.old.kept) (K.meaning_of index.new.kept) change.now graph.now.graph) }
 {
     let Ok(Verdict::New) = judge(graph, change, &Limits::program()) else {
         return Err("not new".into());
@@ -119,49 +145,59 @@ fn prepare<L: Ledger>(
 }
 
 // Prepares a change, and cancels it.
-fn prepare_in_vain(index: &mut AkIndex, graph: &Graph, change: &Change) -> Result<(), Fail>
-    requires ready { IsReady (meaning_of Parents index.old.kept) graph.now.graph }
-    ensures { OnOk result (IsReady (meaning_of Parents index.new.kept) graph.now.graph) }
+fn prepare_in_vain<K: KeptViews>(
+    index: &mut KeptIndex<K>,
+    graph: &Graph,
+    change: &Change,
+) -> Result<(), Fail>
+    requires ready { IsReady (K.meaning_of index.old.kept) graph.now.graph }
+    ensures { OnOk result (IsReady (K.meaning_of index.new.kept) graph.now.graph) }
 {
-    prepare::<Brand>(index, graph, change, Blank::new(1))?;
+    prepare::<K, Brand>(index, graph, change, Blank::new(1))?;
     index.cancel();
     Ok(())
 }
 
 // Prepares a change, which isn't seen yet, and puts it in force.
-fn prepare_and_commit(
+fn prepare_and_commit<K: KeptViews>(
     rt: &impl Abort,
-    index: &mut AkIndex,
+    index: &mut KeptIndex<K>,
     graph: &Graph,
     change: &Change,
 ) -> Result<(), Fail>
-    requires ready { IsReady (meaning_of Parents index.old.kept) graph.now.graph }
+    requires ready { IsReady (K.meaning_of index.old.kept) graph.now.graph }
 {
-    prepare::<Brand>(index, graph, change, Blank::new(1))?;
+    prepare::<K, Brand>(index, graph, change, Blank::new(1))?;
     check_before(rt, index);
     index.commit();
     Ok(())
 }
 
-fn check_kept(
+fn check_kept<K: KeptViews>(
     rt: &impl Abort,
     alloc: Global,
-    index: &mut AkIndex,
+    index: &mut KeptIndex<K>,
     graph: &Graph,
+    row: &Row,
 ) -> Result<(), Fail>
-    requires ready { IsReady (meaning_of Parents index.old.kept) graph.now.graph }
+    requires ready { IsReady (K.meaning_of index.old.kept) graph.now.graph }
 {
-    let change = Change::one(alloc, Step::Link(6, 3))?;
+    let change = Change::one(alloc, Step::Link(row.edge.0, row.edge.1))?;
     prepare_in_vain(index, graph, &change)?;
     check_before(rt, index);
     prepare_and_commit(rt, index, graph, &change)?;
-    check_after(rt, index);
+    check_after(rt, index, row);
     Ok(())
 }
 
-fn check_index(rt: &impl Abort, alloc: Global, graph: &Graph) -> Result<(), Fail> {
-    let mut index = built::<Brand>(alloc, graph, Blank::new(1))?;
-    check_kept(rt, alloc, &mut index, graph)
+fn check_index<K: KeptViews>(
+    rt: &impl Abort,
+    alloc: Global,
+    graph: &Graph,
+    row: &Row,
+) -> Result<(), Fail> {
+    let mut index = built::<K, Brand>(alloc, graph, Blank::new(1))?;
+    check_kept(rt, alloc, &mut index, graph, row)
 }
 
 // Two chains and an x, with these further edges.
@@ -179,16 +215,30 @@ fn graph_of<L: Ledger>(
 }
 
 // A build of the graph after the change comes to the same.
-fn check_fresh(rt: &impl Abort, alloc: Global, graph: &Graph) -> Result<(), Fail> {
-    let index = built::<Brand>(alloc, graph, Blank::new(1))?;
-    check_after(rt, &index);
+fn check_fresh<K: KeptViews>(
+    rt: &impl Abort,
+    alloc: Global,
+    graph: &Graph,
+    row: &Row,
+) -> Result<(), Fail> {
+    let index = built::<K, Brand>(alloc, graph, Blank::new(1))?;
+    check_after(rt, &index, row);
     Ok(())
 }
 
+fn check_levels<K: KeptViews>(rt: &impl Abort, alloc: Global, row: &Row) -> Result<(), Fail> {
+    let graph = graph_of::<Brand>(alloc, &[], Blank::new(1))?;
+    check_index::<K>(rt, alloc, &graph, row)?;
+    let linked = graph_of::<Brand>(alloc, &[row.edge], Blank::new(1))?;
+    check_fresh::<K>(rt, alloc, &linked, row)
+}
+
 #[test]
-fn a_link_moves_nodes(rt: HostRuntime) -> Result<(), Fail> {
-    let graph = graph_of::<Brand>(rt.alloc(), &[], Blank::new(1))?;
-    check_index(&rt, rt.alloc(), &graph)?;
-    let linked = graph_of::<Brand>(rt.alloc(), &[(6, 3)], Blank::new(1))?;
-    check_fresh(&rt, rt.alloc(), &linked)
+fn a_further_parent_moves_nodes(rt: HostRuntime) -> Result<(), Fail> {
+    check_levels::<KeptLevels<ByParents>>(&rt, rt.alloc(), PARENT)
+}
+
+#[test]
+fn a_further_child_moves_nodes(rt: HostRuntime) -> Result<(), Fail> {
+    check_levels::<KeptLevels<ByBoth>>(&rt, rt.alloc(), CHILD)
 }

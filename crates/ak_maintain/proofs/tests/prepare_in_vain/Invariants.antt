@@ -1,4 +1,0 @@
-use Rattle.ak_maintain.proofs.tests.prepare_in_vain.Given as goal
-
-abbrev pub ghosts-prepare : goal.ghosts-prepare
-ghosts-prepare a = record { name = a.blank.name; parts = a.blank.parts }

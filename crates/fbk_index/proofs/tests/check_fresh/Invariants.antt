@@ -1,4 +1,0 @@
-use Rattle.fbk_index.proofs.tests.check_fresh.Given as goal
-
-abbrev pub ghosts-built : goal.ghosts-built
-ghosts-built g a = record { name = a.blank.name; parts = a.blank.parts }
