@@ -8,7 +8,9 @@ use Rattle.command_line.specs.declared.form.Settings.{Settings as SettingsSeen}
 use Rattle.command_line.specs.declared.arguments.Arguments.{Arguments as ArgumentsSeen}
 
 abbrev pub settings_value : SettingsSeen → Settings
-settings_value s = record { script = s.script.now; graph = option_map (λ t. t.now) s.graph; k = s.k; without_one = s.without_one; without_fb = s.without_fb; with_bk = s.with_bk }
+settings_value s = record {
+  script = s.script.now; graph = option_map (λ t. t.now) s.graph; k = s.k; without_one = s.without_one; without_fb = s.without_fb; with_bk = s.with_bk
+}
 
 abbrev pub form_value : FormSeen → Form
 form_value (Run s) = runs (settings_value s)

@@ -56,4 +56,5 @@ pub record IsWalk (hashes heads : List ℕ) (hash m at : ℕ) : Type 0 where
 -- what is found is the newest item with the hash below m, wherever a walk through the numbers below m has come to this link
 abbrev pub FindsNewest : {X : Type 0} → List (Slot X) → ℕ → ℕ → Option ℕ → Type 0
 FindsNewest slots hash from found =
-    (heads : List ℕ) (m : ℕ) → AreChains (length slots) (hashes_of slots) (links_of slots) heads → m ≤ length slots → IsWalk (hashes_of slots) heads hash m from → IsNewest (hashes_of slots) hash m found
+    (heads : List ℕ) (m : ℕ) → AreChains (length slots) (hashes_of slots) (links_of slots) heads → m ≤ length slots
+        → IsWalk (hashes_of slots) heads hash m from → IsNewest (hashes_of slots) hash m found

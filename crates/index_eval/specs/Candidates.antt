@@ -20,7 +20,8 @@ module _ (texts : List (List ℕ)) (v : View) (q : Query) (unrelaxed : Bool) whe
 
   -- the candidates by any relation with which the partition agrees
   abbrev pub AreCandidatesOfEach : List ℕ → Type 0
-  AreCandidatesOfEach nodes = (g : Graph) (r : ℕ → ℕ → Bool) → IsGraph g → g.seen ≡ texts → ViewFits g v → Agrees (shape_of g) v.block_of (λ x y. IsTrue (r x y))
+  AreCandidatesOfEach nodes = (g : Graph) (r : ℕ → ℕ → Bool) → IsGraph g → g.seen ≡ texts → ViewFits g v
+      → Agrees (shape_of g) v.block_of (λ x y. IsTrue (r x y))
       → AreCandidates (shape_of g) r q unrelaxed nodes
 
   -- where the relaxed form is asked, each answer of the graph is among them
@@ -30,4 +31,5 @@ module _ (texts : List (List ℕ)) (v : View) (q : Query) (unrelaxed : Bool) whe
 
   -- where the index is exact for the query, and the query itself is asked, they are the answers of the graph
   abbrev pub AreAnswersOfEach : List ℕ → Type 0
-  AreAnswersOfEach nodes = (g : Graph) (via : Via) → IsGraph g → g.seen ≡ texts → FitsVia via g v → IsExact via q → unrelaxed ≡ true → AreQueryAnswers (shape_of g) q nodes
+  AreAnswersOfEach nodes = (g : Graph) (via : Via) → IsGraph g → g.seen ≡ texts → FitsVia via g v → IsExact via q → unrelaxed ≡ true
+      → AreQueryAnswers (shape_of g) q nodes

@@ -24,7 +24,8 @@ SavesIndex g kept via text = IsViewOf g kept via text ⊎ ((is_kept kept via ≡
 -- what is saved of these indexes, one after another
 abbrev pub SavesIndexes : Graph → KeptIndexes → List Via → List ℕ → Type 0
 SavesIndexes g kept [] text = text ≡ []
-SavesIndexes g kept (via ∷ vias) text = (lines : List ℕ) × (rest : List ℕ) × SavesIndex g kept via lines × SavesIndexes g kept vias rest × (text ≡ lines ++ rest)
+SavesIndexes g kept (via ∷ vias) text = (lines : List ℕ) × (rest : List ℕ) × SavesIndex g kept via lines × SavesIndexes g kept vias rest
+    × (text ≡ lines ++ rest)
 
 -- how many of these indexes are kept
 abbrev pub count_kept : KeptIndexes → List Via → ℕ

@@ -22,9 +22,11 @@ pub record IsLine (line : List ℕ) : Type 0 where
   pub closed : read_text outside line ≡ outside
 
 -- The text has one line for each of these blocks, and one for each of these pairs, and each quoted text ends within it.
-pub record HasLines (g : Graph) (q : Quotient) (names : List (List ℕ)) (most_members : ℕ) (bs : List Block) (rs : List Pair) (blocks pairs : ℕ) (text : List ℕ) : Type 0 where
+pub record HasLines (g : Graph) (q : Quotient) (names : List (List ℕ)) (most_members : ℕ) (bs : List Block) (rs : List Pair) (blocks pairs : ℕ)
+    (text : List ℕ) : Type 0 where
   -- the text has a head, a line for each block and for each pair, a note and a tail
-  pub text_is : text ≡ head_text ++ ((flat_map (block_line g.seen names most_members q.blocks (labels_used bs)) bs ++ flat_map (pair_line (has_edge g) q.blocks) rs) ++ (note_line blocks pairs ++ tail_text))
+  pub text_is : text ≡ head_text ++ ((flat_map (block_line g.seen names most_members q.blocks (labels_used bs)) bs
+      ++ flat_map (pair_line (has_edge g) q.blocks) rs) ++ (note_line blocks pairs ++ tail_text))
   -- what is written for a block is one line
   pub block : (b : Block) → IsLine (block_line g.seen names most_members q.blocks (labels_used bs) b)
   -- so is what is written for a pair

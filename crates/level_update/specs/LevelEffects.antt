@@ -39,7 +39,8 @@ pub record AreBases (g : Graph) (f : List KeyedQuotient) : Type 0 where
   -- at the lowest level a key is the label of its block
   pub lowest : AreLabelled (level_at f 0).quotient.blocks.labels (key_at (level_at f 0).keys)
   -- above it a block has the label of the block one level below with which its key begins
-  pub up : (i : ℕ) → i + 1 < length f → LabelsGoUp (level_at f i).quotient.blocks.labels (level_at f (i + 1)).quotient.blocks.labels (key_at (level_at f (i + 1)).keys)
+  pub up : (i : ℕ) → i + 1 < length f
+      → LabelsGoUp (level_at f i).quotient.blocks.labels (level_at f (i + 1)).quotient.blocks.labels (key_at (level_at f (i + 1)).keys)
 
 -- above the lowest level each node is in the block of its key
 pub record AreKeyedBases (sides : Sides) (g : Graph) (f : List KeyedQuotient) : Type 0 where
@@ -70,7 +71,8 @@ KeysBegin f d (suc i) = LabelsGoUp (labels_shown f d i) (labels_shown f d (suc i
 abbrev pub HasOwnKey : List KeyedQuotient → List KeyedChanges → ℕ → ℕ → Type 0
 HasOwnKey f d zero n = ⊤
 HasOwnKey f d (suc i) n =
-    (number : ℕ) × (b : ℕ) × (at (blocks_shown f d i) n ≡ Some number) × (at (blocks_shown f d (suc i)) n ≡ Some b) × (key_shown f d (suc i) b ≡ Some (number ∷ []))
+    (number : ℕ) × (b : ℕ) × (at (blocks_shown f d i) n ≡ Some number) × (at (blocks_shown f d (suc i)) n ≡ Some b)
+        × (key_shown f d (suc i) b ≡ Some (number ∷ []))
 
 -- A level on the way to the graph g2: some nodes have come and gone, and supports count the edges of the graph h.
 -- Blocks of the base keep their labels and keys, all keys begin as they must, and nodes that have come are in the

@@ -35,5 +35,6 @@ HasMergeable q a = (u : ℕ) × (v : ℕ) × (b : ℕ) × (a < b) × (at q.block
 -- a can be merged with no block behind it, where both have members
 pub record HasNoMergeable (q : Quotient) (a : ℕ) : Type 0 where
   -- no block with a greater number can be merged with it, if both have members
-  pub none : (u v b : ℕ) → IsSome (at q.blocks.labels a) → IsSome (at q.blocks.labels b) → a < b → at q.blocks.block_of u ≡ Some a → at q.blocks.block_of v ≡ Some b
+  pub none : (u v b : ℕ) → IsSome (at q.blocks.labels a) → IsSome (at q.blocks.labels b) → a < b → at q.blocks.block_of u ≡ Some a
+      → at q.blocks.block_of v ≡ Some b
       → CanMerge q a b → ⊥

@@ -81,7 +81,8 @@ HasRead a lost steps steps2 = (read : List ℕ) × HaveRead a lost read steps st
 -- the parents of a node were read for the first time, or none
 pub data ReadsOne (a : Pending) (v : ℕ) (read read2 : List ℕ) (steps steps2 : ℕ) : Type 0 where
   none : read2 ≡ read → steps2 ≡ steps → ReadsOne a v read read2 steps steps2
-  one : IsTrue (is_live (graph_after a) v) → has read v ≡ false → read2 ≡ read ++ v ∷ [] → steps2 ≤ steps + parents_cost a.before (graph_after a) v → ReadsOne a v read read2 steps steps2
+  one : IsTrue (is_live (graph_after a) v) → has read v ≡ false → read2 ≡ read ++ v ∷ [] → steps2 ≤ steps + parents_cost a.before (graph_after a) v
+      → ReadsOne a v read read2 steps steps2
 
 -- The nodes that come, those that get another label, the ends of edges that are left of those that go, and those that get a parent in
 -- a block without support.

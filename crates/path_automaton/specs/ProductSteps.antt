@@ -29,10 +29,12 @@ Succeeds size label_at edge (Some (Fork a b)) v s c = ((s ≡ a) ⊎ (s ≡ b)) 
 -- what is reached from the first state at some first place
 pub data Reached (at : ℕ → Option State) (size : ℕ) (label_at : ℕ → Option ℕ) (edge : ℕ → ℕ → Bool) (First : ℕ → Type 0) (start : ℕ) : ℕ → ℕ → Type 0 where
   begin : (v : ℕ) → First v → Reached at size label_at edge First start start v
-  onward : (s v s2 v2 : ℕ) → Reached at size label_at edge First start s v → Succeeds size label_at edge (at s) v s2 v2 → Reached at size label_at edge First start s2 v2
+  onward : (s v s2 v2 : ℕ) → Reached at size label_at edge First start s v → Succeeds size label_at edge (at s) v s2 v2
+      → Reached at size label_at edge First start s2 v2
 
 -- the nodes at which a word can end, rising
-pub record AreEnds (at : ℕ → Option State) (size : ℕ) (label_at : ℕ → Option ℕ) (edge : ℕ → ℕ → Bool) (First : ℕ → Type 0) (start : ℕ) (nodes : List ℕ) : Type 0 where
+pub record AreEnds (at : ℕ → Option State) (size : ℕ) (label_at : ℕ → Option ℕ) (edge : ℕ → ℕ → Bool) (First : ℕ → Type 0) (start : ℕ) (nodes : List ℕ)
+    : Type 0 where
   -- from the least number to the greatest, with no repeats
   pub rising : IsStrictlyIncreasing nodes
   -- each listed node is reached in an accepting state

@@ -37,7 +37,8 @@ module _ (texts : List (List ℕ)) (states : List State) (low : ℕ) where
   -- the alternatives stand, if there are any
   abbrev pub StandMore : (tree.Seq → tree.Seq) → List Seq → (next : ℕ) → Option ℕ → Type 0
   StandMore f [] next behind = behind ≡ None
-  StandMore f (s ∷ ss) next behind = (i : ℕ) × (behind ≡ Some i) × (i < length states) × Stands texts (λ k. slice_get states k) (expr_by f (seq_of s) ss) low i next
+  StandMore f (s ∷ ss) next behind = (i : ℕ) × (behind ≡ Some i) × (i < length states)
+      × Stands texts (λ k. slice_get states k) (expr_by f (seq_of s) ss) low i next
 
   -- what follows a separator stands, and this state comes first
   abbrev pub StandSep : Sep → tree.Seq → (next after : ℕ) → Type 0

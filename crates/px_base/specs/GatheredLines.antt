@@ -87,7 +87,8 @@ pub record GathersLine (line_limit room : ℕ) (line : List ℕ) (end : LineEnd)
 
 -- the same, where the text ahead is what the window holds and then what the shelf has left
 abbrev pub TakesWhole : ℕ → ℕ → List ℕ → LineEnd → List ℕ → Option (List ℕ) → List ℕ → Option (List ℕ) → Type 0
-TakesWhole line_limit room line end window left window2 left2 = GathersLine line_limit room line end window2 (prepend_known window left) (prepend_known window2 left2)
+TakesWhole line_limit room line end window left window2 left2 =
+    GathersLine line_limit room line end window2 (prepend_known window left) (prepend_known window2 left2)
 
 -- the first line of an observable text has more bytes than the line's limit, or with its end more than the room
 abbrev pub IsLong : ℕ → ℕ → Option (List ℕ) → Type 0

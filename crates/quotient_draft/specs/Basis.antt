@@ -24,7 +24,8 @@ pub record IsOver (block labels : List (Option ℕ)) (d : Drafted) : Type 0 wher
   -- nodes that move have numbers below 2^31
   pub numbers : (n b : ℕ) → lookup (nat_eq n) d.moves ≡ Some (Some b) → n < 2 ^ 31
   -- drafted supports are those of pairs of blocks
-  pub ends : (p : ℕ × ℕ) (n : ℕ) → lookup (is_pair p) d.supports ≡ Some n → IsSome (at (with_added labels d.added) p.0) × IsSome (at (with_added labels d.added) p.1)
+  pub ends : (p : ℕ × ℕ) (n : ℕ) → lookup (is_pair p) d.supports ≡ Some n → IsSome (at (with_added labels d.added) p.0)
+      × IsSome (at (with_added labels d.added) p.1)
   -- the blocks that nodes leave are listed
   pub left : (n b : ℕ) → at block n ≡ Some b → IsSome (lookup (nat_eq n) d.moves) → has d.left b ≡ true
   -- and how many leave each

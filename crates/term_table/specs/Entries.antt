@@ -61,7 +61,8 @@ pub record IsTermTable (arena : List ℕ) (index : Items Entry) : Type 0 where
   -- its parts are those that the term of these parts has
   pub proper : (i : ℕ) → i < length index.items → parts_of (term_of (parts_in arena (entry_at index.items i))) ≡ parts_in arena (entry_at index.items i)
   -- no two terms have the same parts
-  pub apart : (i j : ℕ) → i < length index.items → j < length index.items → parts_in arena (entry_at index.items i) ≡ parts_in arena (entry_at index.items j) → i ≡ j
+  pub apart : (i j : ℕ) → i < length index.items → j < length index.items
+      → parts_in arena (entry_at index.items i) ≡ parts_in arena (entry_at index.items j) → i ≡ j
 
 -- no entry has these parts
 abbrev pub LackParts : List ℕ → List Entry → Parts → Type 0

@@ -13,7 +13,8 @@ use Rattle.triple_names.specs.Represented.{Represents, with_triple, without_trip
 -- Where the graph represents triples, and the change is accepted, the graph that it leaves represents them and this one, once these
 -- numbers are noted.
 abbrev pub InsertKeeps : Names → Graph → Triple → List Step → Placed → Type 0
-InsertKeeps n g t c p = (limits : Limits) (h : Graph) (s : List Triple) → Represents g n s → IsSpelled t → apply c g limits ≡ Ok h → Represents h (noted t p n) (with_triple s t)
+InsertKeeps n g t c p = (limits : Limits) (h : Graph) (s : List Triple) → Represents g n s → IsSpelled t → apply c g limits ≡ Ok h
+    → Represents h (noted t p n) (with_triple s t)
 
 -- Where the graph represents triples, and the change is accepted, the graph that it leaves represents all but this one.
 abbrev pub DeleteKeeps : Names → Graph → Triple → List Step → Type 0

@@ -86,7 +86,8 @@ pub record NumbersStay (terms : List (Term × ℕ)) (later : List (ℕ × Option
   pub places : (n : ℕ) → IsSome (lookup (nat_eq n) later) → IsSome (lookup (nat_eq n) later2)
 
 -- what the tables of names keep
-pub record AreNameTables (terms : List (Term × ℕ)) (predicates : List (List ℕ)) (entries : List (Key × ℕ)) (later_terms : List (ℕ × Option ℕ)) (later_triples : List (Key × Option ℕ)) : Type 0 where
+pub record AreNameTables (terms : List (Term × ℕ)) (predicates : List (List ℕ)) (entries : List (Key × ℕ)) (later_terms : List (ℕ × Option ℕ))
+    (later_triples : List (Key × Option ℕ)) : Type 0 where
   -- the places of each triple are those of a term, a predicate and a term
   pub known : AreKeysIn terms predicates entries
   -- so are those of the triples with later numbers

@@ -52,7 +52,8 @@ tag_part false = is_letter_or_digit
 -- the part was read yet. None where a part is empty.
 abbrev pub past_tag : Bool → Bool → List ℕ → Option (List ℕ)
 past_tag main fresh [] = if fresh then None else Some []
-past_tag main fresh (c ∷ cs) = if tag_part main c then past_tag main false cs else if fresh then None else if c == 45 then past_tag false true cs else Some (c ∷ cs)
+past_tag main fresh (c ∷ cs) = if tag_part main c then past_tag main false cs else if fresh then None
+    else if c == 45 then past_tag false true cs else Some (c ∷ cs)
 
 -- nothing or a comment is left
 abbrev pub is_over : List ℕ → Bool

@@ -18,7 +18,8 @@ AfterObject cs = (gap : List ℕ) × (after : List ℕ) × (comment : List ℕ) 
 -- wherever the bytes are those of a literal, before what may follow an object, P holds of the literal and of what follows it
 abbrev pub EachLiteral : List ℕ → (Term → List ℕ → Type 0) → Type 0
 EachLiteral bytes P =
-    (s r string datatype : List ℕ) (tag : Option (List ℕ)) → IsText bytes (s ++ r) → IsLiteral s string datatype tag → AfterObject r → P (Literal string datatype tag) r
+    (s r string datatype : List ℕ) (tag : Option (List ℕ)) → IsText bytes (s ++ r) → IsLiteral s string datatype tag → AfterObject r
+        → P (Literal string datatype tag) r
 
 -- wherever the bytes are those of what follows the string of a literal, before what may follow an object, P holds of
 -- its datatype, its tag and of what follows
@@ -31,7 +32,8 @@ AfterPredicate cs object = (gap : List ℕ) × (s : List ℕ) × (rest : List �
 
 -- WS* predicate, and what follows it
 abbrev pub AfterSubject : List ℕ → List ℕ → Term → Type 0
-AfterSubject cs predicate object = (gap : List ℕ) × (s : List ℕ) × (rest : List ℕ) × (cs ≡ gap ++ (s ++ rest)) × Blanks gap × IsIri s predicate × AfterPredicate rest object
+AfterSubject cs predicate object = (gap : List ℕ) × (s : List ℕ) × (rest : List ℕ) × (cs ≡ gap ++ (s ++ rest)) × Blanks gap × IsIri s predicate
+    × AfterPredicate rest object
 
 -- wherever the bytes are those of what follows a subject, P holds of the predicate and of the object
 abbrev pub EachRest : List ℕ → (List ℕ → Term → Type 0) → Type 0

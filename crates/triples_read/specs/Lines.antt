@@ -20,12 +20,14 @@ IsIri s iri = (v : List ℕ) × IRIREF s v × (iri ≡ encode_utf8_all v)
 
 -- what follows the quoted string in [6] literal: nothing, a datatype, or a tag
 abbrev pub Suffix : List ℕ → List ℕ → Option (List ℕ) → Type 0
-Suffix s datatype None = ((s ≡ []) × (datatype ≡ xsd_string)) ⊎ ((gap : List ℕ) × (after : List ℕ) × (name : List ℕ) × (s ≡ gap ++ (94 ∷ 94 ∷ (after ++ name))) × Blanks gap × Blanks after × IsIri name datatype)
+Suffix s datatype None = ((s ≡ []) × (datatype ≡ xsd_string))
+    ⊎ ((gap : List ℕ) × (after : List ℕ) × (name : List ℕ) × (s ≡ gap ++ (94 ∷ 94 ∷ (after ++ name))) × Blanks gap × Blanks after × IsIri name datatype)
 Suffix s datatype (Some tag) = (gap : List ℕ) × (name : List ℕ) × (s ≡ gap ++ name) × Blanks gap × LANGTAG name tag × (datatype ≡ lang_string)
 
 -- [6] literal: STRING_LITERAL_QUOTE (WS* '^^' WS* IRIREF | WS* LANGTAG)?
 abbrev pub IsLiteral : List ℕ → List ℕ → List ℕ → Option (List ℕ) → Type 0
-IsLiteral s text datatype tag = (quoted : List ℕ) × (rest : List ℕ) × (v : List ℕ) × (s ≡ quoted ++ rest) × STRING_LITERAL_QUOTE quoted v × (text ≡ encode_utf8_all v) × Suffix rest datatype tag
+IsLiteral s text datatype tag = (quoted : List ℕ) × (rest : List ℕ) × (v : List ℕ) × (s ≡ quoted ++ rest) × STRING_LITERAL_QUOTE quoted v
+    × (text ≡ encode_utf8_all v) × Suffix rest datatype tag
 
 -- [141s] BLANK_NODE_LABEL for the label, which is given without its '_:'
 abbrev pub IsBlankNode : List ℕ → List ℕ → Type 0
@@ -72,7 +74,8 @@ pub record TextOf (bytes : List ℕ) : Type 0 where
 
 -- a line with a triple: WS* triple WS* comment?
 abbrev pub Spells : List ℕ → Triple → Type 0
-Spells line t = (cs : TextOf line) × (before : List ℕ) × (triple : List ℕ) × (after : List ℕ) × (comment : List ℕ) × (cs.chars ≡ before ++ (triple ++ (after ++ comment))) × Blanks before × IsTriple triple t × Blanks after × Comment comment
+Spells line t = (cs : TextOf line) × (before : List ℕ) × (triple : List ℕ) × (after : List ℕ) × (comment : List ℕ)
+    × (cs.chars ≡ before ++ (triple ++ (after ++ comment))) × Blanks before × IsTriple triple t × Blanks after × Comment comment
 
 -- a line without one: WS* comment?
 abbrev pub Empty : List ℕ → Type 0

@@ -25,11 +25,13 @@ hex_number n (h ∷ hs) = hex_number (16 * n + digit_value h) hs
 
 -- [10] UCHAR: '\u' HEX HEX HEX HEX | '\U' HEX HEX HEX HEX HEX HEX HEX HEX, and no surrogate
 abbrev pub UCHAR : List ℕ → ℕ → Type 0
-UCHAR s c = (u : ℕ) × (hs : List ℕ) × (s ≡ 92 ∷ u ∷ hs) × (((u ≡ 117) × (length hs ≡ 4)) ⊎ ((u ≡ 85) × (length hs ≡ 8))) × AllByRecursion HEX hs × (c ≡ hex_number 0 hs) × IsScalar c
+UCHAR s c = (u : ℕ) × (hs : List ℕ) × (s ≡ 92 ∷ u ∷ hs) × (((u ≡ 117) × (length hs ≡ 4)) ⊎ ((u ≡ 85) × (length hs ≡ 8))) × AllByRecursion HEX hs
+    × (c ≡ hex_number 0 hs) × IsScalar c
 
 -- what an ECHAR stands for: \t, \b, \n, \r, \f, \", \', \\
 abbrev pub escape_of : ℕ → Option ℕ
-escape_of e = if e == 116 then Some 9 else if e == 98 then Some 8 else if e == 110 then Some 10 else if e == 114 then Some 13 else if e == 102 then Some 12 else if e == 34 then Some 34 else if e == 39 then Some 39 else if e == 92 then Some 92 else None
+escape_of e = if e == 116 then Some 9 else if e == 98 then Some 8 else if e == 110 then Some 10 else if e == 114 then Some 13 else if e == 102 then Some 12
+    else if e == 34 then Some 34 else if e == 39 then Some 39 else if e == 92 then Some 92 else None
 
 -- [153s] ECHAR: '\' [tbnrf"'\]
 abbrev pub ECHAR : List ℕ → ℕ → Type 0
@@ -71,7 +73,8 @@ OneOrMore class cs = (cs ≢ []) × AllOf class cs
 
 -- [144s] LANGTAG: '@' [a-zA-Z]+ ('-' [a-zA-Z0-9]+)*, read in lower case
 abbrev pub LANGTAG : List ℕ → List ℕ → Type 0
-LANGTAG s v = (main : List ℕ) × (subs : List (List ℕ)) × OneOrMore is_letter main × AllByRecursion (OneOrMore is_letter_or_digit) subs × (s ≡ 64 ∷ (main ++ flat_map (λ sub. 45 ∷ sub) subs)) × (64 ∷ v ≡ map to_ascii_lowercase s)
+LANGTAG s v = (main : List ℕ) × (subs : List (List ℕ)) × OneOrMore is_letter main × AllByRecursion (OneOrMore is_letter_or_digit) subs
+    × (s ≡ 64 ∷ (main ++ flat_map (λ sub. 45 ∷ sub) subs)) × (64 ∷ v ≡ map to_ascii_lowercase s)
 
 -- white space between terminals
 abbrev pub Blanks : List ℕ → Type 0
