@@ -1,7 +1,7 @@
 // The engine with an index of each kind.
 ghost use Rattle.std.specs.Prelude.{◌≡◌, [], ◌∷◌, IfOk};
 ghost use Rattle.pathindex_core.specs.Engines.{IsSound, by_meaning};
-ghost use Rattle.pathindex_core.specs.EngineTerms.{IsClosed, engine_kinds};
+ghost use Rattle.pathindex_core.specs.EngineTerms.{IsUnopened, engine_kinds};
 ghost use Rattle.any_index.specs.AnyMeanings.{meaning_of};
 
 use crate::any::AnyIndex;
@@ -22,7 +22,7 @@ use std::alloc::Global;
 pub fn full_engine(alloc: Global) -> Result<Engine<AnyIndex>, Memory>
     ensures sound { IfOk result (λ engine. IsSound (by_meaning meaning_of engine)) }
     ensures kinds { IfOk result (λ engine. engine_kinds meaning_of engine ≡ Kind.A ∷ Kind.One ∷ Kind.Fb ∷ Kind.B ∷ []) }
-    ensures closed { IfOk result (λ engine. IsClosed engine) }
+    ensures closed { IfOk result (λ engine. IsUnopened engine) }
 {
     let mut indexes = Vec::new(alloc);
     indexes.push(AnyIndex::A(AkIndex::new(alloc)?))?;

@@ -10,9 +10,9 @@ use Rattle.pathindex_calls.specs.declared.requests.Request.TheVariants.{Open, As
 use Rattle.pathindex_calls.specs.Requests.{LevelsAreFew}
 use Rattle.pathindex_calls.specs.Replies.{misused}
 use Rattle.pathindex_calls.specs.Questions.{Checks}
-use Rattle.pathindex_calls.specs.Calls.{Obeys, Opens, Kept, AsksSession, Calls, ChecksSession}
+use Rattle.pathindex_calls.specs.Calls.{ObeysCall, Opens, Kept, AsksSession, Calls, ChecksSession}
 
-pub asked : (o : Option SessionOf) (s t : SessionOf) (command : Command) (text : List ℕ) (g h : Option (List Step)) (reply : Reply) → o ≡ Some s → Obeys command text s g t h reply
+pub asked : (o : Option SessionOf) (s t : SessionOf) (command : Command) (text : List ℕ) (g h : Option (List Step)) (reply : Reply) → o ≡ Some s → ObeysCall command text s g t h reply
     → AsksSession o command text g (record { session = Some t; group = h }) reply
 asked o s t command text g h reply is obeys = subst (λ p. AsksSession p command text g (record { session = Some t; group = h }) reply) (sym is) (t, refl, obeys)
 

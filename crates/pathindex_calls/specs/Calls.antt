@@ -20,24 +20,24 @@ use Rattle.pathindex_calls.specs.Changes.{Inserts, Deletes, ReadsTriple, Steps, 
 use Rattle.pathindex_calls.specs.Questions.{Asks, Explains, Checks, Lists, Measures, Saves, Forgets}
 
 -- A command was carried out, with this text, on a session and the group of steps that is begun.
-abbrev pub Obeys : Command → List ℕ → SessionOf → Option (List Step) → SessionOf → Option (List Step) → Reply → Type 0
-Obeys Node text s g t h reply = Labels (λ label. node label) text s g t h reply
-Obeys (Link u v) text s g t h reply = Steps (link u v) s g t h reply
-Obeys (Unlink u v) text s g t h reply = Steps (unlink u v) s g t h reply
-Obeys (Drop u) text s g t h reply = Steps (step.drop u) s g t h reply
-Obeys (Relabel u) text s g t h reply = Labels (λ label. relabel u label) text s g t h reply
-Obeys Begin text s g t h reply = (t ≡ s) × Begins g h reply
-Obeys End text s g t h reply = Ends s g t h reply
-Obeys Cancel text s g t h reply = (t ≡ s) × Cancels g h reply
-Obeys Insert text s g t h reply = (h ≡ g) × ReadsTriple (λ x. Inserts x) text s t reply
-Obeys Delete text s g t h reply = (h ≡ g) × ReadsTriple (λ x. Deletes x) text s t reply
-Obeys (Path via) text s g t h reply = (h ≡ g) × Asks (SpellsPath text) text via s t reply
-Obeys (Branch via) text s g t h reply = (h ≡ g) × Asks (SpellsBranch text) text via s t reply
-Obeys (Why u) text s g t h reply = (h ≡ g) × Explains text u s t reply
-Obeys (Extents via) text s g t h reply = (h ≡ g) × Lists via s t reply
-Obeys Sizes text s g t h reply = (h ≡ g) × Measures s t reply
-Obeys Save text s g t h reply = (h ≡ g) × Saves s t reply
-Obeys (Forget kind) text s g t h reply = (h ≡ g) × Forgets kind s t reply
+abbrev pub ObeysCall : Command → List ℕ → SessionOf → Option (List Step) → SessionOf → Option (List Step) → Reply → Type 0
+ObeysCall Node text s g t h reply = Labels (λ label. node label) text s g t h reply
+ObeysCall (Link u v) text s g t h reply = Steps (link u v) s g t h reply
+ObeysCall (Unlink u v) text s g t h reply = Steps (unlink u v) s g t h reply
+ObeysCall (Drop u) text s g t h reply = Steps (step.drop u) s g t h reply
+ObeysCall (Relabel u) text s g t h reply = Labels (λ label. relabel u label) text s g t h reply
+ObeysCall Begin text s g t h reply = (t ≡ s) × Begins g h reply
+ObeysCall End text s g t h reply = Ends s g t h reply
+ObeysCall Cancel text s g t h reply = (t ≡ s) × Cancels g h reply
+ObeysCall Insert text s g t h reply = (h ≡ g) × ReadsTriple (λ x. Inserts x) text s t reply
+ObeysCall Delete text s g t h reply = (h ≡ g) × ReadsTriple (λ x. Deletes x) text s t reply
+ObeysCall (Path via) text s g t h reply = (h ≡ g) × Asks (SpellsPath text) text via s t reply
+ObeysCall (Branch via) text s g t h reply = (h ≡ g) × Asks (SpellsBranch text) text via s t reply
+ObeysCall (Why u) text s g t h reply = (h ≡ g) × Explains text u s t reply
+ObeysCall (Extents via) text s g t h reply = (h ≡ g) × Lists via s t reply
+ObeysCall Sizes text s g t h reply = (h ≡ g) × Measures s t reply
+ObeysCall Save text s g t h reply = (h ≡ g) × Saves s t reply
+ObeysCall (Forget kind) text s g t h reply = (h ≡ g) × Forgets kind s t reply
 
 -- A session was opened with the graph of the text, or a line of it is refused, or memory ran out.
 abbrev pub Opens : Indexes → List ℕ → Option SessionOf → Reply → Type 0
@@ -58,7 +58,7 @@ kept_by h = record { session = h.session; group = h.group }
 -- Something was asked of the session, if one is open.
 abbrev pub AsksSession : Option SessionOf → Command → List ℕ → Option (List Step) → Kept → Reply → Type 0
 AsksSession None command text g k reply = (k ≡ record { session = None; group = g }) × (reply ≡ misused)
-AsksSession (Some s) command text g k reply = (t : SessionOf) × (k.session ≡ Some t) × Obeys command text s g t k.group reply
+AsksSession (Some s) command text g k reply = (t : SessionOf) × (k.session ≡ Some t) × ObeysCall command text s g t k.group reply
 
 -- A call that asks for nothing changes nothing.
 abbrev pub Calls : Option Request → List ℕ → Kept → Kept → Reply → Type 0

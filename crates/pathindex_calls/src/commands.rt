@@ -1,5 +1,5 @@
 // A command that is carried out.
-ghost use Rattle.pathindex_calls.specs.Calls.{Obeys};
+ghost use Rattle.pathindex_calls.specs.Calls.{ObeysCall};
 
 use crate::changes::{begin, cancel, delete, end, insert, take_node, take_relabel, take_step};
 use crate::questions::{branch, extents, forget, path, save, sizes, why};
@@ -17,7 +17,7 @@ pub(crate) fn obey(
     command: Command,
     text: &[u8],
 ) -> Reply
-    ensures { Obeys command text.now session.old group.old session.new group.new result }
+    ensures { ObeysCall command text.now session.old group.old session.new group.new result }
 {
     match command {
         Command::Node => take_node(alloc, session, group, text),

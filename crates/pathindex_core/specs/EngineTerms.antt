@@ -12,8 +12,8 @@ use Rattle.pathindex_core.specs.Boxes.{via_view}
 use Rattle.pathindex_core.specs.Engines.{Opened, EngineOf, EngineSeen, graph_in}
 use Rattle.pathindex_core.specs.Updates.{outcome_in}
 
-abbrev pub IsClosed : {B : Type 0} → EngineOf B → Type 0
-IsClosed e = e.opened ≡ None
+abbrev pub IsUnopened : {B : Type 0} → EngineOf B → Type 0
+IsUnopened e = e.opened ≡ None
 
 abbrev pub IsOpened : {B : Type 0} → EngineOf B → Type 0
 IsOpened e = IsSome e.opened
@@ -44,8 +44,8 @@ engine_outcome c e = outcome_in c e.opened
 
 -- ---- of an engine by what its indexes mean
 
-abbrev pub IsSeenOpen : EngineSeen → Type 0
-IsSeenOpen e = IsSome e.opened
+abbrev pub IsSeenOpened : EngineSeen → Type 0
+IsSeenOpened e = IsSome e.opened
 
 abbrev pub IsSeenOpenedAs : EngineSeen → Opened → Type 0
 IsSeenOpenedAs e o = e.opened ≡ Some o

@@ -3,7 +3,7 @@
 
 ghost use Rattle.std.specs.Prelude.{◌≡◌, [], ◌∷◌};
 ghost use Rattle.pathindex_core.specs.Engines.{IsSound, by_meaning};
-ghost use Rattle.pathindex_core.specs.EngineTerms.{IsClosed, engine_kinds};
+ghost use Rattle.pathindex_core.specs.EngineTerms.{IsUnopened, engine_kinds};
 
 use ak_maintain::AkIndex;
 use fb_index::FbIndex;
@@ -40,7 +40,7 @@ fn run_over<B: PathIndex>(
     engine: &mut Engine<B>,
 ) -> u8
     requires kinds { engine_kinds B.meaning engine.old ≡ Kind.A ∷ Kind.One ∷ Kind.Fb ∷ Kind.B ∷ [] }
-    requires closed { IsClosed engine.old }
+    requires closed { IsUnopened engine.old }
     requires sound { IsSound (by_meaning B.meaning engine.old) }
 {
     let mut shelf = HostShelf::new(rt);

@@ -10,13 +10,13 @@ use Rattle.index_api.specs.declared.kinds.Via.{Via}
 use Rattle.index_file.specs.Reads.{Outcome, Reads, holds}
 use Rattle.index_file.specs.ReadSteps.{ReadsObservable, LacksFile}
 use Rattle.index_file.specs.SavedFiles.{SavedFile}
-use Rattle.pathindex_run.specs.CheckedFiles.{ChecksNamed, ChecksText, EndsCheck, ShowsFit, ShowsOutcome}
+use Rattle.pathindex_run.specs.CheckedFiles.{ChecksNamed, ChecksFileText, EndsCheck, ShowsFit, ShowsOutcome}
 use Rattle.pathindex_run.specs.Headline.{ChecksWhole, HasStatus, MayLackDueFile, NoFault}
 use Rattle.pathindex_run.specs.ShownLines.{ShowsLine}
 
 -- ---- what is written
 
-stopped_text : (text old : Option (List ℕ)) (status : ℕ) → (status ≡ 5) ⊎ (status ≡ 7) → ChecksText text old old status
+stopped_text : (text old : Option (List ℕ)) (status : ℕ) → (status ≡ 5) ⊎ (status ≡ 7) → ChecksFileText text old old status
 stopped_text None old status e = (Keeps-refl old, e)
 stopped_text (Some t) old status e = inr (Keeps-refl old, e)
 
@@ -26,12 +26,12 @@ pub check_stopped : (files : Option (List File)) (name : List ℕ) (old : Option
 check_stopped None name old status e = tt
 check_stopped (Some fs) name old status e = stopped_text (content_of fs name) old status e
 
-kept_text : (text old new : Option (List ℕ)) (status : ℕ) → (status ≡ 7) × Keeps old new → ChecksText text old new status
+kept_text : (text old new : Option (List ℕ)) (status : ℕ) → (status ≡ 7) × Keeps old new → ChecksFileText text old new status
 kept_text None old new status k = (k.1, inr k.0)
 kept_text (Some t) old new status k = inr (k.1, inr k.0)
 
 shown_text : (text : Option (List ℕ)) (t : List ℕ) (o : Outcome) (old new : Option (List ℕ)) (status : ℕ) → text ≡ Some t → Reads program_limits t o
-    → ShowsOutcome o old new status → ChecksText text old new status
+    → ShowsOutcome o old new status → ChecksFileText text old new status
 shown_text None t o old new status e r s = cc
 shown_text (Some u) t o old new status e r s = (let same : u ≡ t = cc in inl (o, subst (λ x. Reads program_limits x o) (sym same) r, s))
 

@@ -42,15 +42,15 @@ ShowsOutcome (syntax l) old new status = ShowsLine (index_line l (codes "syntax"
 ShowsOutcome (limit l) old new status = ShowsLine (index_line l (codes "limit")) 3 old new status
 
 -- `text` is what the file holds, if it is there. Nothing is written if it isn't, if it isn't read to its end, or if memory runs out.
-abbrev pub ChecksText : Option (List ℕ) → Option (List ℕ) → Option (List ℕ) → ℕ → Type 0
-ChecksText None old new status = StopsAtOnce old new status
-ChecksText (Some text) old new status =
+abbrev pub ChecksFileText : Option (List ℕ) → Option (List ℕ) → Option (List ℕ) → ℕ → Type 0
+ChecksFileText None old new status = StopsAtOnce old new status
+ChecksFileText (Some text) old new status =
     ((o : Outcome) × Reads program_limits text o × ShowsOutcome o old new status) ⊎ StopsAtOnce old new status
 
 -- the file of that name is checked, as far as the files are observable
 abbrev pub ChecksNamed : Option (List File) → List ℕ → Option (List ℕ) → Option (List ℕ) → ℕ → Type 0
 ChecksNamed None name old new status = ⊤
-ChecksNamed (Some files) name old new status = ChecksText (content_of files name) old new status
+ChecksNamed (Some files) name old new status = ChecksFileText (content_of files name) old new status
 
 -- the views were checked, or a write failed or memory ran out
 abbrev pub EndsCheck : ℕ → Type 0

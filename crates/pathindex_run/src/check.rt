@@ -5,7 +5,7 @@ ghost use Rattle.px_base.specs.Causes.{MayHaveRisen};
 ghost use Rattle.command_line.specs.Forms.{checks};
 ghost use Rattle.index_file.specs.Reads.{holds};
 ghost use Rattle.pathindex_core.specs.Engines.{IsSound, by_meaning};
-ghost use Rattle.pathindex_core.specs.EngineTerms.{IsClosed, engine_kinds};
+ghost use Rattle.pathindex_core.specs.EngineTerms.{IsUnopened, engine_kinds};
 ghost use Rattle.pathindex_run.specs.CheckedFiles.{ChecksNamed, EndsCheck, FitsBut, ShowsFit, ShowsOutcome};
 ghost use Rattle.pathindex_run.specs.Headline.{ChecksWhole, HasStatus};
 ghost use Rattle.pathindex_run.specs.StatusCodes.{code_of};
@@ -80,7 +80,7 @@ fn check_file<H: Shelf, K: Sink>(alloc: Global, name: &str, shelf: &mut H, sink:
 
 /// Drops all indexes.
 fn drop_indexes<B: PathIndex>(engine: &mut Engine<B>)
-    requires closed { IsClosed engine.old }
+    requires closed { IsUnopened engine.old }
     requires sound { IsSound (by_meaning B.meaning engine.old) }
     ensures sound { IsSound (by_meaning B.meaning engine.new) }
     ensures dropped { engine_kinds B.meaning engine.new ≡ [] }
@@ -99,7 +99,7 @@ pub(crate) fn run_check<B: PathIndex, H: Shelf, K: Sink>(
     shelf: &mut H,
     sink: &mut K,
 ) -> Status
-    requires closed { IsClosed engine.old }
+    requires closed { IsUnopened engine.old }
     requires sound { IsSound (by_meaning B.meaning engine.old) }
     ensures sound { IsSound (by_meaning B.meaning engine.new) }
     ensures dropped { engine_kinds B.meaning engine.new ≡ [] }

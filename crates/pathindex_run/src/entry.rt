@@ -7,8 +7,8 @@ ghost use Rattle.bisim_spec.specs.declared.kind.Kind.{Kind};
 ghost use Rattle.graph_spec.specs.Graphs.{empty_graph};
 ghost use Rattle.triple_names.specs.Names.{no_names};
 ghost use Rattle.pathindex_core.specs.Engines.{IsSound, by_meaning};
-ghost use Rattle.pathindex_core.specs.EngineTerms.{IsClosed, engine_kinds};
-ghost use Rattle.script_interpreter.specs.EngineStates.{state_of, IsOpen, IsIn};
+ghost use Rattle.pathindex_core.specs.EngineTerms.{IsUnopened, engine_kinds};
+ghost use Rattle.script_interpreter.specs.EngineStates.{state_of, IsOpenForProgram, IsIn};
 ghost use Rattle.script_interpreter.specs.States.{BeginsRun, left_out};
 ghost use Rattle.pathindex_run.specs.Headline.{RunsForm, HasStatus, ChecksWhole, Completes, NamesFile, NoFault, kinds_for};
 ghost use Rattle.pathindex_run.specs.StatusCodes.{code_of};
@@ -69,7 +69,7 @@ pub fn run<B: PathIndex, H: Shelf, K: Sink>(
     shelf: &mut H,
     sink: &mut K,
 ) -> u8
-    requires closed { IsClosed engine.old }
+    requires closed { IsUnopened engine.old }
     requires sound { IsSound (by_meaning B.meaning engine.old) }
     ensures sound { IsSound (by_meaning B.meaning engine.new) }
     ensures does { RunsForm (form_of (map string_bytes words.now)) (engine_kinds B.meaning engine.old) (H.files shelf.old) (K.written sink.old)
@@ -99,7 +99,7 @@ fn run_words<B: PathIndex, H: Shelf, K: Sink>(
     shelf: &mut H,
     sink: &mut K,
 ) -> Status
-    requires closed { IsClosed engine.old }
+    requires closed { IsUnopened engine.old }
     requires sound { IsSound (by_meaning B.meaning engine.old) }
     ensures sound { IsSound (by_meaning B.meaning engine.new) }
     ensures does { RunsForm (form_of (map string_bytes words.now)) (engine_kinds B.meaning engine.old) (H.files shelf.old) (K.written sink.old)
@@ -144,7 +144,7 @@ fn run_settings<B: PathIndex, H: Shelf, K: Sink>(
     shelf: &mut H,
     sink: &mut K,
 ) -> Status
-    requires closed { IsClosed engine.old }
+    requires closed { IsUnopened engine.old }
     requires sound { IsSound (by_meaning B.meaning engine.old) }
     requires level { settings.now.k ≤ 8 }
     ensures sound { IsSound (by_meaning B.meaning engine.new) }
@@ -175,7 +175,7 @@ fn run_loaded<B: PathIndex, H: Shelf, K: Sink>(
     sink: &mut K,
 ) -> Status
     requires named { option_map (λ t. t.now) settings.now.graph ≡ Some name.now }
-    requires closed { IsClosed engine.old }
+    requires closed { IsUnopened engine.old }
     requires sound { IsSound (by_meaning B.meaning engine.old) }
     requires level { settings.now.k ≤ 8 }
     ensures sound { IsSound (by_meaning B.meaning engine.new) }
@@ -199,9 +199,9 @@ fn run_loaded<B: PathIndex, H: Shelf, K: Sink>(
 
 /// Drops the index of that kind if it is left out.
 pub(crate) fn leave_out<B: PathIndex>(engine: &mut Engine<B>, kind: Kind, is_left_out: bool)
-    requires closed { IsClosed engine.old }
+    requires closed { IsUnopened engine.old }
     requires sound { IsSound (by_meaning B.meaning engine.old) }
-    ensures closed { IsClosed engine.new }
+    ensures closed { IsUnopened engine.new }
     ensures sound { IsSound (by_meaning B.meaning engine.new) }
     ensures kinds { engine_kinds B.meaning engine.new ≡ left_out is_left_out kind (engine_kinds B.meaning engine.old) }
 {
@@ -221,7 +221,7 @@ fn run_script<B: PathIndex, H: Shelf, K: Sink>(
     sink: &mut K,
 ) -> Status
     requires begins { BeginsObservable (settings_value settings.now).graph (H.files shelf.old) graph.graph names.names }
-    requires closed { IsClosed engine.old }
+    requires closed { IsUnopened engine.old }
     requires sound { IsSound (by_meaning B.meaning engine.old) }
     requires level { settings.now.k ≤ 8 }
     ensures sound { IsSound (by_meaning B.meaning engine.new) }
@@ -253,7 +253,7 @@ fn run_open<B: PathIndex, H: Shelf, K: Sink>(
 ) -> Status
     requires begins { BeginsObservable (settings_value settings.now).graph (H.files shelf.old) (state_of B.meaning engine.old names.names).graph
         names.names }
-    requires ready { IsOpen (by_meaning B.meaning engine.old) }
+    requires ready { IsOpenForProgram (by_meaning B.meaning engine.old) }
     ensures sound { IsSound (by_meaning B.meaning engine.new) }
     ensures does { (kinds : List Kind) → BeginsRun (state_of B.meaning engine.old names.names).graph names.names
         (kinds_for (settings_value settings.now) kinds) settings.now.k (state_of B.meaning engine.old names.names)

@@ -6,9 +6,9 @@ ghost use Rattle.graph_load.specs.LoadSteps.{TellsOutcome};
 ghost use Rattle.workload.specs.MadeTexts.{made_graph_text};
 ghost use Rattle.index_file.specs.WholeFiles.{HasLabels};
 ghost use Rattle.pathindex_core.specs.Engines.{IsSound, by_meaning};
-ghost use Rattle.pathindex_core.specs.EngineTerms.{IsClosed, engine_graph, engine_kinds};
+ghost use Rattle.pathindex_core.specs.EngineTerms.{IsUnopened, engine_graph, engine_kinds};
 ghost use Rattle.script_interpreter.specs.declared.printing.Printing.TheVariants.{Brief};
-ghost use Rattle.script_interpreter.specs.EngineStates.{state_of, IsOpen, IsIn};
+ghost use Rattle.script_interpreter.specs.EngineStates.{state_of, IsOpenForProgram, IsIn};
 ghost use Rattle.script_interpreter.specs.Rules.{rules_for};
 ghost use Rattle.pathindex_run.specs.Headline.{RunsFrom, RunsLoaded, RunsScript, made_task};
 ghost use Rattle.pathindex_run.specs.MadeSteps.{HasSinkStatus, text_task};
@@ -48,7 +48,7 @@ pub(crate) fn run_seeded<B: PathIndex, K: Sink>(
     engine: &mut Engine<B>,
     sink: &mut K,
 ) -> Status
-    requires closed { IsClosed engine.old }
+    requires closed { IsUnopened engine.old }
     requires sound { IsSound (by_meaning B.meaning engine.old) }
     ensures sound { IsSound (by_meaning B.meaning engine.new) }
     ensures does { RunsLoaded (made_task seed (engine_kinds B.meaning engine.old)) (Some (made_graph_text seed)) (K.written sink.old)
@@ -75,7 +75,7 @@ fn run_script<B: PathIndex, K: Sink>(
     sink: &mut K,
 ) -> Status
     requires labels { HasLabels graph.graph }
-    requires closed { IsClosed engine.old }
+    requires closed { IsUnopened engine.old }
     requires sound { IsSound (by_meaning B.meaning engine.old) }
     ensures sound { IsSound (by_meaning B.meaning engine.new) }
     ensures does { RunsFrom (made_task seed (engine_kinds B.meaning engine.old)) graph.graph names.names (K.written sink.old) (K.written sink.new)
@@ -99,7 +99,7 @@ fn run_text<B: PathIndex, K: Sink>(
     sink: &mut K,
 ) -> Status
     requires labels { HasLabels graph.graph }
-    requires closed { IsClosed engine.old }
+    requires closed { IsUnopened engine.old }
     requires sound { IsSound (by_meaning B.meaning engine.old) }
     ensures sound { IsSound (by_meaning B.meaning engine.new) }
     ensures does { RunsFrom (text_task script.now (engine_kinds B.meaning engine.old)) graph.graph names.names (K.written sink.old)
@@ -121,7 +121,7 @@ fn run_open<B: PathIndex, K: Sink>(
     sink: &mut K,
 ) -> Status
     requires labels { HasLabels (engine_graph engine.old) }
-    requires ready { IsOpen (by_meaning B.meaning engine.old) }
+    requires ready { IsOpenForProgram (by_meaning B.meaning engine.old) }
     ensures sound { IsSound (by_meaning B.meaning engine.new) }
     ensures does { RunsScript (rules_for Brief) (state_of B.meaning engine.old names.names) (Some script.now) (K.written sink.old)
         (K.written sink.new) (code_of result) (IsIn (by_meaning B.meaning engine.new)) }

@@ -42,7 +42,7 @@ abbrev pub names_of : SessionOf → Names
 names_of s = s.names.names
 
 -- What holds of a session's engine between two calls.
-pub record IsReady (e : EngineOf AnyIndex) : Type 0 where
+pub record IsOpenAndSound (e : EngineOf AnyIndex) : Type 0 where
   -- the engine is open
   pub is_open : IsOpened e
   -- each index fits the graph

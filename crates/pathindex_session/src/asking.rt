@@ -14,7 +14,7 @@ ghost use Rattle.pathindex_core.specs.Engines.{by_meaning, kept_in};
 ghost use Rattle.pathindex_core.specs.Calls.{KeepsAllButViews};
 ghost use Rattle.pathindex_core.specs.EngineTerms.{engine_graph};
 ghost use Rattle.walk_spec.specs.LeastWalks.{IsLeast};
-ghost use Rattle.pathindex_session.specs.Sessions.{IsReady};
+ghost use Rattle.pathindex_session.specs.Sessions.{IsOpenAndSound};
 ghost use Rattle.pathindex_session.specs.Asked.{IsAsked};
 
 use any_index::AnyIndex;
@@ -40,11 +40,11 @@ pub(crate) fn ask<L: Ledger>(
     query: &Query<'_>,
     blank: Blank,
 ) -> Result<Found, AskError>
-    requires ready { IsReady engine.old }
+    requires ready { IsOpenAndSound engine.old }
     requires name { blank.name ≡ L.name }
     requires parts { blank.parts ≡ L.parts }
     requires some { 0 < blank.parts }
-    ensures ready { IsReady engine.new }
+    ensures ready { IsOpenAndSound engine.new }
     ensures keeps { KeepsAllButViews (by_meaning meaning_of engine.old) (by_meaning meaning_of engine.new) }
     ensures asked { IsAsked (by_meaning meaning_of engine.old) via (query_of query.now) result }
 {
@@ -65,12 +65,12 @@ pub(crate) fn list<L: Ledger>(
     via: Via,
     blank: Blank,
 ) -> Result<Text, AskError>
-    requires ready { IsReady engine.old }
+    requires ready { IsOpenAndSound engine.old }
     requires index { via ≢ TheGraph }
     requires name { blank.name ≡ L.name }
     requires parts { blank.parts ≡ L.parts }
     requires some { 0 < blank.parts }
-    ensures ready { IsReady engine.new }
+    ensures ready { IsOpenAndSound engine.new }
     ensures keeps { KeepsAllButViews (by_meaning meaning_of engine.old) (by_meaning meaning_of engine.new) }
     ensures listed { IfOk result (ListsIndex (engine_graph engine.old) (kept_in (by_meaning meaning_of engine.old)) via) }
     ensures no_index { (result ≡ Err AskError.NoIndex) ↔ (is_kept (kept_in (by_meaning meaning_of engine.old)) via ≡ false) }
@@ -85,11 +85,11 @@ pub(crate) fn measure<L: Ledger>(
     engine: &mut Engine<AnyIndex>,
     blank: Blank,
 ) -> Result<Text, Memory>
-    requires ready { IsReady engine.old }
+    requires ready { IsOpenAndSound engine.old }
     requires name { blank.name ≡ L.name }
     requires parts { blank.parts ≡ L.parts }
     requires some { 0 < blank.parts }
-    ensures ready { IsReady engine.new }
+    ensures ready { IsOpenAndSound engine.new }
     ensures keeps { KeepsAllButViews (by_meaning meaning_of engine.old) (by_meaning meaning_of engine.new) }
     ensures measured { IfOk result (ListsSizes (engine_graph engine.old) (kept_in (by_meaning meaning_of engine.old))) }
 {
@@ -103,11 +103,11 @@ pub(crate) fn save<L: Ledger>(
     engine: &mut Engine<AnyIndex>,
     blank: Blank,
 ) -> Result<Text, Memory>
-    requires ready { IsReady engine.old }
+    requires ready { IsOpenAndSound engine.old }
     requires name { blank.name ≡ L.name }
     requires parts { blank.parts ≡ L.parts }
     requires some { 0 < blank.parts }
-    ensures ready { IsReady engine.new }
+    ensures ready { IsOpenAndSound engine.new }
     ensures keeps { KeepsAllButViews (by_meaning meaning_of engine.old) (by_meaning meaning_of engine.new) }
     ensures saved { IfOk result (SavesFile (engine_graph engine.old) (kept_in (by_meaning meaning_of engine.old))) }
     ensures whole { IfOk result (λ t. HasLabels (engine_graph engine.old)

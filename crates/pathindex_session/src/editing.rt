@@ -7,7 +7,7 @@ ghost use Rattle.triple_names.specs.TripleChanges as changes;
 ghost use Rattle.any_index.specs.AnyMeanings.{meaning_of};
 ghost use Rattle.pathindex_core.specs.Engines.{by_meaning};
 ghost use Rattle.pathindex_core.specs.EngineTerms.{engine_graph};
-ghost use Rattle.pathindex_session.specs.Sessions.{IsReady};
+ghost use Rattle.pathindex_session.specs.Sessions.{IsOpenAndSound};
 ghost use Rattle.pathindex_session.specs.Edits.{IsEdited, names_with};
 
 use any_index::AnyIndex;
@@ -25,7 +25,7 @@ fn prepare(
     names: &mut Names,
     triple: &Triple,
 ) -> Result<(Change, Placed), Memory>
-    requires ready { IsReady engine.now }
+    requires ready { IsOpenAndSound engine.now }
     ensures change { IfOk result (λ r. r.0 ≡ insert_steps names.old.names (engine_graph engine.now) triple.now) }
     ensures placed { IfOk result (λ r. r.1 ≡ placed_in names.old.names (engine_graph engine.now) triple.now) }
     ensures reserved { OnOk result (IsTrue (is_among names.new.reserved triple.now)) }
@@ -43,8 +43,8 @@ pub(crate) fn insert(
     names: &mut Names,
     triple: Triple,
 ) -> Result<Applied, UpdateError>
-    requires ready { IsReady engine.old }
-    ensures ready { IsReady engine.new }
+    requires ready { IsOpenAndSound engine.old }
+    ensures ready { IsOpenAndSound engine.new }
     ensures edited { IsEdited (Some (insert_steps names.old.names (engine_graph engine.old) triple))
         (by_meaning meaning_of engine.old) (by_meaning meaning_of engine.new) result }
     ensures names { OnOk result (AreSameNames names.new.names (names_with names.old.names (engine_graph engine.old) triple)) }
@@ -69,8 +69,8 @@ pub(crate) fn delete(
     names: &Names,
     triple: &Triple,
 ) -> Result<Applied, UpdateError>
-    requires ready { IsReady engine.old }
-    ensures ready { IsReady engine.new }
+    requires ready { IsOpenAndSound engine.old }
+    ensures ready { IsOpenAndSound engine.new }
     ensures edited { IsEdited (changes.delete_change names.now.names (engine_graph engine.old) triple.now)
         (by_meaning meaning_of engine.old) (by_meaning meaning_of engine.new) result }
 {

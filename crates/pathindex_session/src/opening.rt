@@ -2,9 +2,9 @@
 ghost use Rattle.std.specs.Prelude.{◌≡◌, ◌≤◌, Some, IfOk, IfErr};
 ghost use Rattle.graph_spec.specs.ProgramLimits.{program_limits};
 ghost use Rattle.pathindex_core.specs.Engines.{IsSound, by_meaning};
-ghost use Rattle.pathindex_core.specs.EngineTerms.{IsClosed, engine_kinds};
+ghost use Rattle.pathindex_core.specs.EngineTerms.{IsUnopened, engine_kinds};
 ghost use Rattle.any_index.specs.AnyMeanings.{meaning_of};
-ghost use Rattle.pathindex_session.specs.Sessions.{IsReady};
+ghost use Rattle.pathindex_session.specs.Sessions.{IsOpenAndSound};
 ghost use Rattle.pathindex_session.specs.Openings.{kinds_kept, OpensGraph, OpensText, TellsLine};
 
 use crate::errors::OpenError;
@@ -37,7 +37,7 @@ pub struct Indexes {
 fn engine_with(alloc: Global, kept: Indexes) -> Result<Engine<AnyIndex>, Memory>
     ensures sound { IfOk result (λ engine. IsSound (by_meaning meaning_of engine)) }
     ensures kinds { IfOk result (λ engine. engine_kinds meaning_of engine ≡ kinds_kept kept) }
-    ensures closed { IfOk result (λ engine. IsClosed engine) }
+    ensures closed { IfOk result (λ engine. IsUnopened engine) }
 {
     let mut indexes = Vec::new(alloc);
     indexes.push(AnyIndex::A(AkIndex::new(alloc)?))?;
@@ -61,7 +61,7 @@ pub(crate) fn open_graph(
     kept: Indexes,
 ) -> Result<Engine<AnyIndex>, Memory>
     requires level { kept.k ≤ 8 }
-    ensures ready { IfOk result IsReady }
+    ensures ready { IfOk result IsOpenAndSound }
     ensures opened { IfOk result (OpensGraph graph.graph kept) }
 {
     let mut engine = engine_with(alloc, kept)?;
@@ -76,7 +76,7 @@ pub(crate) fn open_text(
     kept: Indexes,
 ) -> Result<(Engine<AnyIndex>, Names), OpenError>
     requires level { kept.k ≤ 8 }
-    ensures ready { IfOk result (λ r. IsReady r.0) }
+    ensures ready { IfOk result (λ r. IsOpenAndSound r.0) }
     ensures opened { IfOk result (λ r. OpensText text.now kept r.0 r.1.names) }
     ensures refused { IfErr result (TellsLine text.now) }
 {

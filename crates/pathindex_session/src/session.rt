@@ -77,7 +77,7 @@ impl Drop for Session {
 }
 
 impl Model for Session {
-    ghost use Rattle.pathindex_session.specs.Sessions.{SessionOf, session_code, IsReady};
+    ghost use Rattle.pathindex_session.specs.Sessions.{SessionOf, session_code, IsOpenAndSound};
 
     ghost Value = { SessionOf };
 
@@ -85,7 +85,7 @@ impl Model for Session {
 
     ghost view = { λ s. record { engine = s.engine; names = s.names; nodes = s.nodes.items; walk = s.walk; text = s.text } };
 
-    ghost invariant = { λ s. IsReady s.engine };
+    ghost invariant = { λ s. IsOpenAndSound s.engine };
 }
 
 impl Session {

@@ -6,7 +6,7 @@ ghost use Rattle.graph_load.specs.LoadSteps.{LoadsObservable, NamesObservable};
 ghost use Rattle.index_api.specs.declared.kinds.Via.TheVariants.{Data};
 ghost use Rattle.index_picture.specs.Pictures as picture;
 ghost use Rattle.pathindex_core.specs.Engines.{IsSound, by_meaning};
-ghost use Rattle.pathindex_core.specs.EngineTerms.{IsClosed, IsOpened, StaysOpened, engine_graph};
+ghost use Rattle.pathindex_core.specs.EngineTerms.{IsUnopened, IsOpened, StaysOpened, engine_graph};
 ghost use Rattle.picture_run.specs.DrawnFiles.{Draws, DrawsFile, HasDrawn, ShowsPicture};
 ghost use Rattle.picture_run.specs.Settings.{AreWithin};
 ghost use Rattle.picture_run.specs.SettingsValues.{settings_value};
@@ -56,9 +56,9 @@ fn show_summary<K: Sink>(
 
 // Drops the index of that kind, unless it is drawn.
 fn leave_out<B: PathIndex>(engine: &mut Engine<B>, kind: Kind, drawn: Kind)
-    requires closed { IsClosed engine.old }
+    requires closed { IsUnopened engine.old }
     requires sound { IsSound (by_meaning B.meaning engine.old) }
-    ensures closed { IsClosed engine.new }
+    ensures closed { IsUnopened engine.new }
     ensures sound { IsSound (by_meaning B.meaning engine.new) }
 {
     if kind != drawn {
@@ -73,7 +73,7 @@ fn build<B: PathIndex>(
     kind: Kind,
     level: u32,
 ) -> Result<(), Memory>
-    requires closed { IsClosed engine.old }
+    requires closed { IsUnopened engine.old }
     requires sound { IsSound (by_meaning B.meaning engine.old) }
     requires level { level ≤ 8 }
     ensures sound { IsSound (by_meaning B.meaning engine.new) }
@@ -135,7 +135,7 @@ fn show_index<B: PathIndex, K: Sink>(
     engine: &mut Engine<B>,
     sink: &mut K,
 ) -> Status
-    requires closed { IsClosed engine.old }
+    requires closed { IsUnopened engine.old }
     requires sound { IsSound (by_meaning B.meaning engine.old) }
     requires index { settings.now.via ≢ Data }
     requires level { place.1 ≤ 8 }
@@ -177,7 +177,7 @@ fn show_loaded<B: PathIndex, K: Sink>(
     engine: &mut Engine<B>,
     sink: &mut K,
 ) -> Status
-    requires closed { IsClosed engine.old }
+    requires closed { IsUnopened engine.old }
     requires sound { IsSound (by_meaning B.meaning engine.old) }
     requires within { AreWithin (settings_value settings.now) }
     ensures { ShowsPicture (settings_value settings.now) graph.graph names.now (K.written sink.old) (K.written sink.new) (code_of result) }
@@ -200,7 +200,7 @@ fn show_named<B: PathIndex, H: Shelf, K: Sink>(
 ) -> Status
     requires loads { LoadsObservable program_limits (H.files shelf.old) (settings_value settings.now).file (loaded graph.graph) }
     requires numbers { NamesObservable program_limits (H.files shelf.old) (settings_value settings.now).file graph.graph terms.now.names }
-    requires closed { IsClosed engine.old }
+    requires closed { IsUnopened engine.old }
     requires sound { IsSound (by_meaning B.meaning engine.old) }
     requires within { AreWithin (settings_value settings.now) }
     ensures does { DrawsFile (settings_value settings.now) (H.files shelf.old) (K.written sink.old) (K.written sink.new) (code_of result) }
@@ -222,7 +222,7 @@ fn run_settings<B: PathIndex, H: Shelf, K: Sink>(
     shelf: &mut H,
     sink: &mut K,
 ) -> Status
-    requires closed { IsClosed engine.old }
+    requires closed { IsUnopened engine.old }
     requires sound { IsSound (by_meaning B.meaning engine.old) }
     requires within { AreWithin (settings_value settings.now) }
     ensures does { DrawsFile (settings_value settings.now) (H.files shelf.old) (K.written sink.old) (K.written sink.new) (code_of result) }
@@ -246,7 +246,7 @@ fn run_words<B: PathIndex, H: Shelf, K: Sink>(
     shelf: &mut H,
     sink: &mut K,
 ) -> Status
-    requires closed { IsClosed engine.old }
+    requires closed { IsUnopened engine.old }
     requires sound { IsSound (by_meaning B.meaning engine.old) }
     ensures does { Draws (settings_of (map string_bytes words.now)) (H.files shelf.old) (K.written sink.old) (K.written sink.new) (code_of result) }
     ensures files { H.files shelf.new ≡ H.files shelf.old }
@@ -282,7 +282,7 @@ pub fn run<B: PathIndex, H: Shelf, K: Sink>(
     shelf: &mut H,
     sink: &mut K,
 ) -> u8
-    requires closed { IsClosed engine.old }
+    requires closed { IsUnopened engine.old }
     requires sound { IsSound (by_meaning B.meaning engine.old) }
     // Status 0: the words give settings, and the picture that they ask for is written.
     ensures drawn { result ≡ 0 → HasDrawn (settings_of (map string_bytes words.now)) (H.files shelf.old) (K.written sink.old) (K.written sink.new) }

@@ -27,14 +27,14 @@ use Rattle.script_interpreter.specs.declared.group.Scope.TheVariants.{Line}
 use Rattle.script_interpreter.specs.LineTexts.{made_lines, refused_line, ok_line, reply}
 use Rattle.script_interpreter.specs.Outputs.{Gathered, with_printed}
 use Rattle.script_interpreter.specs.States.{State, BeginsRun}
-use Rattle.script_interpreter.specs.EngineStates.{IsOpen, state_in}
+use Rattle.script_interpreter.specs.EngineStates.{IsOpenForProgram, state_in}
 use Rattle.script_interpreter.specs.Indexes.{ShowsAnswers, ShowsExtents, unkept, ShowsSizes}
 use Rattle.script_interpreter.specs.Runs.{IsChanged, Becomes, Obeys, changes, asks_path, asks_branch, lists, measures, forgets, lacks}
 use Rattle.script_interpreter.specs.RunSteps.{query_command, Changed, Obeyed}
 use Rattle.script_interpreter.proofs.EngineLemmas.{first_state, accepted_after, changed_state, forgotten_state}
 
-pub open_same : (e f : EngineSeen) → f ≡ e → IsOpen e → IsOpen f
-open_same e f h o = subst IsOpen (sym h) o
+pub open_same : (e f : EngineSeen) → f ≡ e → IsOpenForProgram e → IsOpenForProgram f
+open_same e f h o = subst IsOpenForProgram (sym h) o
 
 -- the indexes of an open engine
 fits_in : (e : EngineSeen) (o : Opened) → e.opened ≡ Some o → IsSound e → All (IsKeptFor o) e.boxes
@@ -48,7 +48,7 @@ pub no_refusal : {T E P : Type 0} (x : T) (e : E) → (P → Ok x ≡ Err e) →
 no_refusal x e f p = (let z = f p in cc)
 
 -- an engine after a change that was made
-pub open_made : (c : List Step) (e f : EngineSeen) (answer : Applied) → IsOpen e → IsSound f → IsMade c e f answer → IsOpen f
+pub open_made : (c : List Step) (e f : EngineSeen) (answer : Applied) → IsOpenForProgram e → IsSound f → IsMade c e f answer → IsOpenForProgram f
 open_made c e f answer o sound m = record {
   sound = sound;
   opened = record o.opened { graph = graph_or o.opened.graph (apply c o.opened.graph o.opened.limits) };
@@ -56,7 +56,7 @@ open_made c e f answer o sound m = record {
   limits_are = o.limits_are;
 }
 
-pub made_changed : (n : Names) (scope : Scope) (c : List Step) (e f : EngineSeen) (answer : Applied) (old new : Gathered) → IsOpen e → IsMade c e f answer → ((r : Refusal) → outcome_in c e.opened ≡ Err r → ⊥)
+pub made_changed : (n : Names) (scope : Scope) (c : List Step) (e f : EngineSeen) (answer : Applied) (old new : Gathered) → IsOpenForProgram e → IsMade c e f answer → ((r : Refusal) → outcome_in c e.opened ≡ Err r → ⊥)
     → new ≡ with_printed old (if_whole old.printing (made_lines scope answer)) false → Changed scope (state_in e n) c old false (state_in f n) new
 made_changed n scope c e f answer old new ready m accepted g =
     let o = ready.opened in
@@ -83,7 +83,7 @@ made_changed n scope c e f answer old new ready m accepted g =
     ] refl
 
 -- a change was refused, and all is as it was
-pub refused_changed : (n : Names) (scope : Scope) (c : List Step) (e f : EngineSeen) (r : Refusal) (old new : Gathered) → IsOpen e → f ≡ e → outcome_in c e.opened ≡ Err r
+pub refused_changed : (n : Names) (scope : Scope) (c : List Step) (e f : EngineSeen) (r : Refusal) (old new : Gathered) → IsOpenForProgram e → f ≡ e → outcome_in c e.opened ≡ Err r
     → new ≡ with_printed old (refused_line r) true → Changed scope (state_in e n) c old true (state_in f n) new
 refused_changed n scope c e f r old new ready same q g =
     let o = ready.opened in
@@ -104,7 +104,7 @@ pub changed_obeyed : (s : State) (x : Step) (old : Gathered) (refuses : Bool) (t
 changed_obeyed s x old refuses t new c = record { printed = c.printed; refuses = refuses; obeys = changes x c.printed refuses t c.makes; gathered_is = c.gathered_is }
 
 -- the numbers that an accepted change allocates are few, if those of the graph before and after it are
-pub few_numbers : (c : List Step) (e f : EngineSeen) (answer : Applied) (before after_it : ℕ) → IsOpen e → IsMade c e f answer → ((r : Refusal) → outcome_in c e.opened ≡ Err r → ⊥)
+pub few_numbers : (c : List Step) (e f : EngineSeen) (answer : Applied) (before after_it : ℕ) → IsOpenForProgram e → IsMade c e f answer → ((r : Refusal) → outcome_in c e.opened ≡ Err r → ⊥)
     → before ≡ length (graph_in e.opened).allocated → before ≤ 2 ^ 30 → after_it ≡ length (graph_in f.opened).allocated → after_it ≤ 2 ^ 30
     → answer.first + answer.added ≤ 2 ^ 30
 few_numbers c e f answer before after_it ready m accepted b few a few_after =
@@ -121,7 +121,7 @@ few_numbers c e f answer before after_it ready m accepted b few a few_after =
       | Err r ↦ λ q. absurd (accepted r (ap (outcome_in c) ready.opened_is ∙ q))
     ] refl
 
-pub open_asked : (e f : EngineSeen) → IsOpen e → IsSound f → KeepsAllButViews e f → IsOpen f
+pub open_asked : (e f : EngineSeen) → IsOpenForProgram e → IsSound f → KeepsAllButViews e f → IsOpenForProgram f
 open_asked e f o sound a = record { sound = sound; opened = o.opened; opened_is = a.opened ∙ o.opened_is; limits_are = o.limits_are }
 
 pub same_asked : (n : Names) (e f : EngineSeen) → KeepsAllButViews e f → state_in f n ≡ state_in e n
@@ -158,7 +158,7 @@ sizes_obeyed n e f text old new a s g = record {
   gathered_is = g;
 }
 
-pub open_forgotten : (kind : Kind) (e f : EngineSeen) → IsOpen e → IsSound f → IsForgotten kind e f → IsOpen f
+pub open_forgotten : (kind : Kind) (e f : EngineSeen) → IsOpenForProgram e → IsSound f → IsForgotten kind e f → IsOpenForProgram f
 open_forgotten kind e f o sound a = record { sound = sound; opened = o.opened; opened_is = a.opened ∙ o.opened_is; limits_are = o.limits_are }
 
 pub forget_obeyed : (n : Names) (kind : Kind) (e f : EngineSeen) (old new : Gathered) → IsForgotten kind e f → has_kind (kinds_of e.boxes) kind ≡ true

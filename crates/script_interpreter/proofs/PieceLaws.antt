@@ -21,7 +21,7 @@ use Rattle.index_file.specs.SavedIndexes.{SavesIndex, SavesIndexes, SavesFile, c
 use Rattle.index_file.specs.WholeFiles.{HasLabels}
 use Rattle.pathindex_core.specs.Engines.{EngineSeen, graph_in, level_in, kept_in}
 use Rattle.pathindex_core.specs.Calls.{KeepsAllButViews}
-use Rattle.script_interpreter.specs.EngineStates.{IsOpen}
+use Rattle.script_interpreter.specs.EngineStates.{IsOpenForProgram}
 use Rattle.script_interpreter.specs.Indexes.{IsSaved, ShowsFile}
 use Rattle.script_interpreter.specs.States.{State}
 use Rattle.script_interpreter.specs.Pieces.{Wrote, WrotePart, WroteNext, SavesParts}
@@ -174,21 +174,21 @@ is_saved e f k count text a level c p =
     subst (λ j. SavesParts (graph_in e.opened) (kept_in e) j (count_kept (kept_in e) (all_indexes j)) text) level here
 
 -- which is an index file, if the labels are labels
-is_whole : (e : EngineSeen) → IsOpen e → IsGraph (graph_in e.opened) → length (graph_in e.opened).allocated ≤ 2 ^ 30 → HasLabels (graph_in e.opened) → (text : List ℕ) → SavesFile (graph_in e.opened) (kept_in e) text
+is_whole : (e : EngineSeen) → IsOpenForProgram e → IsGraph (graph_in e.opened) → length (graph_in e.opened).allocated ≤ 2 ^ 30 → HasLabels (graph_in e.opened) → (text : List ℕ) → SavesFile (graph_in e.opened) (kept_in e) text
     → IsSaved (graph_in e.opened) (kept_in e) text
 is_whole e o graph few labels text s = record { written = s; file = whole_file e text (ap is_some o.opened_is) o.sound graph few labels s }
 
-pub file_wrote : (e f : EngineSeen) (k count : ℕ) (a b : Option (List ℕ)) → IsOpen e → IsGraph (graph_in e.opened) → length (graph_in e.opened).allocated ≤ 2 ^ 30 → HasLabels (graph_in e.opened)
+pub file_wrote : (e f : EngineSeen) (k count : ℕ) (a b : Option (List ℕ)) → IsOpenForProgram e → IsGraph (graph_in e.opened) → length (graph_in e.opened).allocated ≤ 2 ^ 30 → HasLabels (graph_in e.opened)
     → KeepsAllButViews e f → k ≡ level_in e.opened → count ≡ count_kept (kept_in e) (all_indexes k) → Wrote (SavesParts (graph_in f.opened) (kept_in f) k count) a b → Wrote (IsSaved (graph_in e.opened) (kept_in e)) a b
 file_wrote e f k count a b o graph few labels s level c w =
     wrote_as (SavesParts (graph_in f.opened) (kept_in f) k count) (IsSaved (graph_in e.opened) (kept_in e)) a b (λ text p. is_whole e o graph few labels text (is_saved e f k count text s level c p)) w
 
-pub file_part : (e f : EngineSeen) (k count : ℕ) (a b : Option (List ℕ)) → IsOpen e → IsGraph (graph_in e.opened) → length (graph_in e.opened).allocated ≤ 2 ^ 30 → HasLabels (graph_in e.opened)
+pub file_part : (e f : EngineSeen) (k count : ℕ) (a b : Option (List ℕ)) → IsOpenForProgram e → IsGraph (graph_in e.opened) → length (graph_in e.opened).allocated ≤ 2 ^ 30 → HasLabels (graph_in e.opened)
     → KeepsAllButViews e f → k ≡ level_in e.opened → count ≡ count_kept (kept_in e) (all_indexes k) → WrotePart (SavesParts (graph_in f.opened) (kept_in f) k count) a b → WrotePart (IsSaved (graph_in e.opened) (kept_in e)) a b
 file_part e f k count a b o graph few labels s level c w =
     part_as (SavesParts (graph_in f.opened) (kept_in f) k count) (IsSaved (graph_in e.opened) (kept_in e)) a b (λ text p. is_whole e o graph few labels text (is_saved e f k count text s level c p)) w
 
-pub no_file_yet : (e : EngineSeen) (a : Option (List ℕ)) → IsOpen e → IsGraph (graph_in e.opened) → length (graph_in e.opened).allocated ≤ 2 ^ 30 → HasLabels (graph_in e.opened)
+pub no_file_yet : (e : EngineSeen) (a : Option (List ℕ)) → IsOpenForProgram e → IsGraph (graph_in e.opened) → length (graph_in e.opened).allocated ≤ 2 ^ 30 → HasLabels (graph_in e.opened)
     → WrotePart (IsSaved (graph_in e.opened) (kept_in e)) a a
 no_file_yet e a o graph few labels =
     let k = (kept_in e).k in

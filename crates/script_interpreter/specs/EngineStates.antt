@@ -4,7 +4,7 @@ use Rattle.graph_spec.specs.ProgramLimits.{program_limits}
 use Rattle.index_api.specs.Meanings.{Meaning}
 use Rattle.triple_names.specs.Names.{Names}
 use Rattle.pathindex_core.specs.Engines.{Opened, EngineOf, EngineSeen, IsSound, by_meaning, kept_in}
-use Rattle.pathindex_core.specs.EngineTerms.{IsSeenOpen, IsSeenOpenedAs, seen_graph}
+use Rattle.pathindex_core.specs.EngineTerms.{IsSeenOpened, IsSeenOpenedAs, seen_graph}
 use Rattle.script_interpreter.specs.States.{State}
 
 -- the graph and the indexes of the engine, and these numbers of terms and triples
@@ -16,7 +16,7 @@ abbrev pub state_of : {B : Type 0} → (B → Meaning) → EngineOf B → Names 
 state_of meaning e n = state_in (by_meaning meaning e) n
 
 -- the engine is open with the limits of the program, and its indexes fit its graph
-pub record IsOpen (e : EngineSeen) : Type 0 where
+pub record IsOpenForProgram (e : EngineSeen) : Type 0 where
   -- no two indexes are of one kind, and each fits the graph
   pub sound : IsSound e
   -- what is open: a graph, limits and a highest level
@@ -29,7 +29,7 @@ pub record IsOpen (e : EngineSeen) : Type 0 where
 -- the engine is open, and has the graph and the indexes of the state
 pub record IsIn (e : EngineSeen) (s : State) : Type 0 where
   -- the engine is open
-  pub is_open : IsSeenOpen e
+  pub is_open : IsSeenOpened e
   -- its graph is that of the state
   pub graph : seen_graph e ≡ s.graph
   -- so are its indexes

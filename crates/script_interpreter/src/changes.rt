@@ -4,7 +4,7 @@ ghost use Rattle.graph_steps.specs.StepLists.{step_of};
 ghost use Rattle.triple_names.specs.Names.{Names as Numbers};
 ghost use Rattle.pathindex_core.specs.Engines.{by_meaning};
 ghost use Rattle.script_read.specs.Commands.{change as changing, insert as inserting, delete as deleting};
-ghost use Rattle.script_interpreter.specs.EngineStates.{state_of, IsOpen};
+ghost use Rattle.script_interpreter.specs.EngineStates.{state_of, IsOpenForProgram};
 ghost use Rattle.script_interpreter.specs.RunSteps.{Changed, Obeyed};
 
 use crate::group::Scope;
@@ -25,8 +25,8 @@ pub(crate) fn make<B: PathIndex>(
     scope: Scope,
     output: &mut Output,
 ) -> Result<bool, Memory>
-    requires ready { IsOpen (by_meaning B.meaning engine.old) }
-    ensures ready { IsOpen (by_meaning B.meaning engine.new) }
+    requires ready { IsOpenForProgram (by_meaning B.meaning engine.old) }
+    ensures ready { IsOpenForProgram (by_meaning B.meaning engine.new) }
     ensures ok { (n : Numbers) → IfOk result (λ accepted. Changed scope (state_of B.meaning engine.old n) change output.old (not accepted)
         (state_of B.meaning engine.new n) output.new) }
     ensures err { OnErr result (output.new ≡ output.old) }
@@ -54,8 +54,8 @@ pub(crate) fn change<B: PathIndex>(
     step: Step,
     output: &mut Output,
 ) -> Result<(), Memory>
-    requires ready { IsOpen (by_meaning B.meaning engine.old) }
-    ensures ready { IsOpen (by_meaning B.meaning engine.new) }
+    requires ready { IsOpenForProgram (by_meaning B.meaning engine.old) }
+    ensures ready { IsOpenForProgram (by_meaning B.meaning engine.new) }
     ensures ok { (n : Numbers) → OnOk result (Obeyed (state_of B.meaning engine.old n) (changing (step_of step)) output.old
         (state_of B.meaning engine.new n) output.new) }
     ensures err { OnErr result (output.new ≡ output.old) }
@@ -77,8 +77,8 @@ pub(crate) fn insert<B: PathIndex>(
     triple: Triple,
     output: &mut Output,
 ) -> Result<(), Memory>
-    requires ready { IsOpen (by_meaning B.meaning engine.old) }
-    ensures ready { IsOpen (by_meaning B.meaning engine.new) }
+    requires ready { IsOpenForProgram (by_meaning B.meaning engine.old) }
+    ensures ready { IsOpenForProgram (by_meaning B.meaning engine.new) }
     ensures ok { OnOk result (Obeyed (state_of B.meaning engine.old names.old.names) (inserting triple) output.old
         (state_of B.meaning engine.new names.new.names) output.new) }
     ensures err { OnErr result (output.new ≡ output.old) }
@@ -101,8 +101,8 @@ pub(crate) fn delete<B: PathIndex>(
     triple: &Triple,
     output: &mut Output,
 ) -> Result<(), Memory>
-    requires ready { IsOpen (by_meaning B.meaning engine.old) }
-    ensures ready { IsOpen (by_meaning B.meaning engine.new) }
+    requires ready { IsOpenForProgram (by_meaning B.meaning engine.old) }
+    ensures ready { IsOpenForProgram (by_meaning B.meaning engine.new) }
     ensures ok { OnOk result (Obeyed (state_of B.meaning engine.old names.now.names) (deleting triple.now) output.old
         (state_of B.meaning engine.new names.now.names) output.new) }
     ensures err { OnErr result (output.new ≡ output.old) }

@@ -14,7 +14,7 @@ ghost use Rattle.script_read.specs.Commands.{IsSpelled, PassesLimit};
 ghost use Rattle.graph_spec.specs.ProgramLimits.{program_limits};
 ghost use Rattle.triple_names.specs.Names.{Names as Numbers};
 ghost use Rattle.pathindex_core.specs.Engines.{by_meaning};
-ghost use Rattle.script_interpreter.specs.EngineStates.{state_of, IsOpen};
+ghost use Rattle.script_interpreter.specs.EngineStates.{state_of, IsOpenForProgram};
 ghost use Rattle.script_interpreter.specs.Outputs.{Gathered};
 ghost use Rattle.script_interpreter.specs.States.{State};
 ghost use Rattle.script_interpreter.specs.Walks.{ShowsLast};
@@ -61,8 +61,8 @@ fn ask<B: PathIndex, L: Ledger>(
     output: &mut Output,
     steps: &mut Steps<L>,
 ) -> Result<(), Memory>
-    requires ready { IsOpen (by_meaning B.meaning engine.old) }
-    ensures ready { IsOpen (by_meaning B.meaning engine.new) }
+    requires ready { IsOpenForProgram (by_meaning B.meaning engine.old) }
+    ensures ready { IsOpenForProgram (by_meaning B.meaning engine.new) }
     ensures ok { (n : Numbers) → OnOk result (Obeyed (state_of B.meaning engine.old n) (query_command via (query_of query.now)) output.old
         (state_of B.meaning engine.new n) output.new) }
     ensures err { OnErr result (output.new ≡ output.old) }
@@ -109,7 +109,7 @@ fn explain<B: PathIndex, L: Ledger>(
     output: &mut Output,
     steps: &mut Steps<L>,
 ) -> Result<(), Memory>
-    requires ready { IsOpen (by_meaning B.meaning engine.now) }
+    requires ready { IsOpenForProgram (by_meaning B.meaning engine.now) }
     ensures ok { (n : Numbers) → OnOk result (Obeyed (state_of B.meaning engine.now n) (asking_why node expr.now) output.old
         (state_of B.meaning engine.now n) output.new) }
     ensures err { OnErr result (output.new ≡ output.old) }
@@ -144,7 +144,7 @@ fn check<B: PathIndex>(
     expr: &PathExpr,
     output: &mut Output,
 ) -> Result<(), Memory>
-    requires ready { IsOpen (by_meaning B.meaning engine.now) }
+    requires ready { IsOpenForProgram (by_meaning B.meaning engine.now) }
     ensures ok { (n : Numbers) → OnOk result (Obeyed (state_of B.meaning engine.now n) (checking walk.now expr.now) output.old
         (state_of B.meaning engine.now n) output.new) }
     ensures err { OnErr result (output.new ≡ output.old) }
@@ -165,9 +165,9 @@ fn list_index<B: PathIndex, L: Ledger>(
     output: &mut Output,
     steps: &mut Steps<L>,
 ) -> Result<(), Memory>
-    requires ready { IsOpen (by_meaning B.meaning engine.old) }
+    requires ready { IsOpenForProgram (by_meaning B.meaning engine.old) }
     requires index { via ≢ Data }
-    ensures ready { IsOpen (by_meaning B.meaning engine.new) }
+    ensures ready { IsOpenForProgram (by_meaning B.meaning engine.new) }
     ensures ok { (n : Numbers) → OnOk result (Obeyed (state_of B.meaning engine.old n) (listing via) output.old
         (state_of B.meaning engine.new n) output.new) }
     ensures err { OnErr result (output.new ≡ output.old) }
@@ -187,8 +187,8 @@ fn list<B: PathIndex, L: Ledger>(
     output: &mut Output,
     steps: &mut Steps<L>,
 ) -> Result<(), Memory>
-    requires ready { IsOpen (by_meaning B.meaning engine.old) }
-    ensures ready { IsOpen (by_meaning B.meaning engine.new) }
+    requires ready { IsOpenForProgram (by_meaning B.meaning engine.old) }
+    ensures ready { IsOpenForProgram (by_meaning B.meaning engine.new) }
     ensures ok { (n : Numbers) → OnOk result (Obeyed (state_of B.meaning engine.old n) (listing via) output.old
         (state_of B.meaning engine.new n) output.new) }
     ensures err { OnErr result (output.new ≡ output.old) }
@@ -206,8 +206,8 @@ fn measure<B: PathIndex, L: Ledger>(
     output: &mut Output,
     steps: &mut Steps<L>,
 ) -> Result<(), Memory>
-    requires ready { IsOpen (by_meaning B.meaning engine.old) }
-    ensures ready { IsOpen (by_meaning B.meaning engine.new) }
+    requires ready { IsOpenForProgram (by_meaning B.meaning engine.old) }
+    ensures ready { IsOpenForProgram (by_meaning B.meaning engine.new) }
     ensures ok { (n : Numbers) → OnOk result (Obeyed (state_of B.meaning engine.old n) measuring output.old
         (state_of B.meaning engine.new n) output.new) }
     ensures err { OnErr result (output.new ≡ output.old) }
@@ -222,8 +222,8 @@ fn forget<B: PathIndex>(
     kind: Kind,
     output: &mut Output,
 ) -> Result<(), Memory>
-    requires ready { IsOpen (by_meaning B.meaning engine.old) }
-    ensures ready { IsOpen (by_meaning B.meaning engine.new) }
+    requires ready { IsOpenForProgram (by_meaning B.meaning engine.old) }
+    ensures ready { IsOpenForProgram (by_meaning B.meaning engine.new) }
     ensures ok { (n : Numbers) → OnOk result (Obeyed (state_of B.meaning engine.old n) (forgetting kind) output.old
         (state_of B.meaning engine.new n) output.new) }
     ensures err { OnErr result (output.new ≡ output.old) }
@@ -247,8 +247,8 @@ fn obey<B: PathIndex, L: Ledger>(
     requires parts { blank.parts ≡ L.parts }
     requires some { 0 < blank.parts }
     requires alone { IsAlone (command_of command) }
-    requires ready { IsOpen (by_meaning B.meaning engine.old) }
-    ensures ready { IsOpen (by_meaning B.meaning engine.new) }
+    requires ready { IsOpenForProgram (by_meaning B.meaning engine.old) }
+    ensures ready { IsOpenForProgram (by_meaning B.meaning engine.new) }
     ensures ok { OnOk result (Obeyed (state_of B.meaning engine.old names.old.names) (command_of command) output.old
         (state_of B.meaning engine.new names.new.names) output.new) }
     ensures err { OnErr result (output.new ≡ output.old) }
@@ -365,9 +365,9 @@ fn take_command<B: PathIndex>(
     group: &mut Option<OpenGroup>,
     output: &mut Output,
 ) -> Result<Outcome, Memory>
-    requires ready { IsOpen (by_meaning B.meaning engine.old) }
+    requires ready { IsOpenForProgram (by_meaning B.meaning engine.old) }
     requires none { group.old ≡ None }
-    ensures ready { IsOpen (by_meaning B.meaning engine.new) }
+    ensures ready { IsOpenForProgram (by_meaning B.meaning engine.new) }
     ensures ok { IfOk result (λ outcome. (line : List ℕ) → ReadsCommand program_limits line (Ok (Some command))
         → (left : Option Group) × IsKeptAs left group.new
         × LineComes (state_of B.meaning engine.old names.old.names) number line None output.old outcome
@@ -408,9 +408,9 @@ fn take_outside<B: PathIndex>(
     group: &mut Option<OpenGroup>,
     output: &mut Output,
 ) -> Result<Outcome, Memory>
-    requires ready { IsOpen (by_meaning B.meaning engine.old) }
+    requires ready { IsOpenForProgram (by_meaning B.meaning engine.old) }
     requires none { group.old ≡ None }
-    ensures ready { IsOpen (by_meaning B.meaning engine.new) }
+    ensures ready { IsOpenForProgram (by_meaning B.meaning engine.new) }
     ensures ok { IfOk result (λ outcome. (line : List ℕ) → ReadsCommand program_limits line read
         → (left : Option Group) × IsKeptAs left group.new
         × LineComes (state_of B.meaning engine.old names.old.names) number line None output.old outcome
@@ -431,9 +431,9 @@ fn end<B: PathIndex>(
     group: &mut Option<OpenGroup>,
     output: &mut Output,
 ) -> Result<bool, Memory>
-    requires ready { IsOpen (by_meaning B.meaning engine.old) }
+    requires ready { IsOpenForProgram (by_meaning B.meaning engine.old) }
     requires some { IsSome group.old }
-    ensures ready { IsOpen (by_meaning B.meaning engine.new) }
+    ensures ready { IsOpenForProgram (by_meaning B.meaning engine.new) }
     ensures ok { (n : Numbers) → IfOk result (λ accepted. (g : Group) → IsKeptAs (Some g) group.old
         → Changed Scope.Group (state_of B.meaning engine.old n) g.steps output.old (not accepted) (state_of B.meaning engine.new n) output.new) }
     ensures ended { OnOk result (group.new ≡ None) }
@@ -464,9 +464,9 @@ fn take_inner<B: PathIndex>(
     group: &mut Option<OpenGroup>,
     output: &mut Output,
 ) -> Result<Outcome, Memory>
-    requires ready { IsOpen (by_meaning B.meaning engine.old) }
+    requires ready { IsOpenForProgram (by_meaning B.meaning engine.old) }
     requires some { IsSome group.old }
-    ensures ready { IsOpen (by_meaning B.meaning engine.new) }
+    ensures ready { IsOpenForProgram (by_meaning B.meaning engine.new) }
     ensures ok { (n : Numbers) → IfOk result (λ outcome. (number : ℕ) (line : List ℕ) (g : Group) → IsSpelled line (command_of command)
         → IsKeptAs (Some g) group.old → (left : Option Group) × IsKeptAs left group.new
         × LineComes (state_of B.meaning engine.old n) number line (Some g) output.old outcome (state_of B.meaning engine.new n) left output.new) }
@@ -505,9 +505,9 @@ fn take_inside<B: PathIndex>(
     group: &mut Option<OpenGroup>,
     output: &mut Output,
 ) -> Result<Outcome, Memory>
-    requires ready { IsOpen (by_meaning B.meaning engine.old) }
+    requires ready { IsOpenForProgram (by_meaning B.meaning engine.old) }
     requires some { IsSome group.old }
-    ensures ready { IsOpen (by_meaning B.meaning engine.new) }
+    ensures ready { IsOpenForProgram (by_meaning B.meaning engine.new) }
     ensures ok { (n : Numbers) → IfOk result (λ outcome. (number : ℕ) (line : List ℕ) (g : Group) → ReadsCommand program_limits line read
         → IsKeptAs (Some g) group.old → (left : Option Group) × IsKeptAs left group.new
         × LineComes (state_of B.meaning engine.old n) number line (Some g) output.old outcome (state_of B.meaning engine.new n) left output.new) }
@@ -530,8 +530,8 @@ pub(crate) fn take<B: PathIndex>(
     group: &mut Option<OpenGroup>,
     output: &mut Output,
 ) -> Result<Outcome, Memory>
-    requires ready { IsOpen (by_meaning B.meaning engine.old) }
-    ensures ready { IsOpen (by_meaning B.meaning engine.new) }
+    requires ready { IsOpenForProgram (by_meaning B.meaning engine.old) }
+    ensures ready { IsOpenForProgram (by_meaning B.meaning engine.new) }
     ensures ok { IfOk result (λ outcome. (was : Option Group) → IsKeptAs was group.old
         → (left : Option Group) × IsKeptAs left group.new
         × LineComes (state_of B.meaning engine.old names.old.names) number line.now was output.old outcome

@@ -12,7 +12,7 @@ ghost use Rattle.index_file.specs.WholeFiles.{HasLabels};
 ghost use Rattle.pathindex_core.specs.Calls.{KeepsAllButViews};
 ghost use Rattle.pathindex_core.specs.Engines.{by_meaning, kept_in};
 ghost use Rattle.pathindex_core.specs.EngineTerms.{engine_graph};
-ghost use Rattle.script_interpreter.specs.EngineStates.{IsOpen};
+ghost use Rattle.script_interpreter.specs.EngineStates.{IsOpenForProgram};
 ghost use Rattle.script_interpreter.specs.Indexes.{IsSaved};
 ghost use Rattle.script_interpreter.specs.Pieces.{Wrote, WrotePart, WroteNext, SavesParts};
 
@@ -126,9 +126,9 @@ fn write_view<B: PathIndex, K: Sink, L: Ledger>(
     sink: &mut K,
     steps: &mut Steps<L>,
 ) -> Result<(), Stop>
-    requires ready { IsOpen (by_meaning B.meaning engine.old) }
+    requires ready { IsOpenForProgram (by_meaning B.meaning engine.old) }
     requires index { via ≢ Data }
-    ensures ready { IsOpen (by_meaning B.meaning engine.new) }
+    ensures ready { IsOpenForProgram (by_meaning B.meaning engine.new) }
     ensures asked { KeepsAllButViews (by_meaning B.meaning engine.old) (by_meaning B.meaning engine.new) }
     ensures all { OnOk result (Wrote (SavesIndex (engine_graph engine.old) (kept_in (by_meaning B.meaning engine.old)) via)
         (K.written sink.old) (K.written sink.new)) }
@@ -155,8 +155,8 @@ fn write_views<B: PathIndex, K: Sink, L: Ledger>(
     steps: &mut Steps<L>,
 ) -> Result<(), Stop>
     requires level { k ≤ 8 }
-    requires ready { IsOpen (by_meaning B.meaning engine.old) }
-    ensures ready { IsOpen (by_meaning B.meaning engine.new) }
+    requires ready { IsOpenForProgram (by_meaning B.meaning engine.old) }
+    ensures ready { IsOpenForProgram (by_meaning B.meaning engine.new) }
     ensures asked { KeepsAllButViews (by_meaning B.meaning engine.old) (by_meaning B.meaning engine.new) }
     ensures all { OnOk result (Wrote (SavesIndexes (engine_graph engine.old) (kept_in (by_meaning B.meaning engine.old)) (all_indexes k))
         (K.written sink.old) (K.written sink.new)) }
@@ -188,8 +188,8 @@ fn write_file<B: PathIndex, K: Sink, L: Ledger>(
     steps: &mut Steps<L>,
 ) -> Result<(), Stop>
     requires level { k ≤ 8 }
-    requires ready { IsOpen (by_meaning B.meaning engine.old) }
-    ensures ready { IsOpen (by_meaning B.meaning engine.new) }
+    requires ready { IsOpenForProgram (by_meaning B.meaning engine.old) }
+    ensures ready { IsOpenForProgram (by_meaning B.meaning engine.new) }
     ensures asked { KeepsAllButViews (by_meaning B.meaning engine.old) (by_meaning B.meaning engine.new) }
     ensures all { OnOk result (Wrote (SavesParts (engine_graph engine.old) (kept_in (by_meaning B.meaning engine.old)) k count)
         (K.written sink.old) (K.written sink.new)) }
@@ -218,8 +218,8 @@ pub(crate) fn save<B: PathIndex, K: Sink, L: Ledger>(
     requires name { blank.name ≡ L.name }
     requires parts { blank.parts ≡ L.parts }
     requires some { 0 < blank.parts }
-    requires ready { IsOpen (by_meaning B.meaning engine.old) }
-    ensures ready { IsOpen (by_meaning B.meaning engine.new) }
+    requires ready { IsOpenForProgram (by_meaning B.meaning engine.old) }
+    ensures ready { IsOpenForProgram (by_meaning B.meaning engine.new) }
     ensures asked { KeepsAllButViews (by_meaning B.meaning engine.old) (by_meaning B.meaning engine.new) }
     ensures all { HasLabels (engine_graph engine.old) → OnOk result (Wrote (IsSaved (engine_graph engine.old)
         (kept_in (by_meaning B.meaning engine.old))) (K.written sink.old) (K.written sink.new)) }

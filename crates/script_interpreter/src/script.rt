@@ -12,7 +12,7 @@ ghost use Rattle.script_interpreter.specs.RunSteps.{progress, Goes, OnTaken, Can
 ghost use Rattle.script_interpreter.specs.Runs.{Progress, Group, end_status, text_at_end};
 ghost use Rattle.script_interpreter.specs.OpenGroups.{IsKeptAs};
 ghost use Rattle.script_interpreter.specs.Endings.{status_at};
-ghost use Rattle.script_interpreter.specs.EngineStates.{state_of, IsOpen, IsIn};
+ghost use Rattle.script_interpreter.specs.EngineStates.{state_of, IsOpenForProgram, IsIn};
 ghost use Rattle.script_interpreter.specs.LineTexts.{bad_line};
 ghost use Rattle.script_interpreter.specs.Outputs.{with_printed};
 ghost use Rattle.script_interpreter.specs.Observable.{RanObservable, PrefixObservable};
@@ -123,8 +123,8 @@ fn next_line<B: PathIndex, H: Shelf>(
     output: &mut Output,
 ) -> Result<Next, Stop>
     requires can { CanRead reader.old (H.is_open shelf.old) }
-    requires ready { IsOpen (by_meaning B.meaning engine.old) }
-    ensures ready { IsOpen (by_meaning B.meaning engine.new) }
+    requires ready { IsOpenForProgram (by_meaning B.meaning engine.old) }
+    ensures ready { IsOpenForProgram (by_meaning B.meaning engine.new) }
     ensures goes { IfOk result (λ next. (was : Option Group) → IsKeptAs was group.old → (left : Option Group) × IsKeptAs left group.new
         × (output.new.printing ≡ output.old.printing) × Goes (rules_for output.old.printing)
         (progress (state_of B.meaning engine.old names.old.names) was output.old.refused reader.old) (stream reader.old (H.left shelf.old)) output.old.text next
@@ -218,8 +218,8 @@ pub fn run_lines<B: PathIndex, H: Shelf, K: Sink>(
     sink: &mut K,
 ) -> Result<Ending, Stop>
     requires file { IsTrue (H.is_open shelf.old) }
-    requires ready { IsOpen (by_meaning B.meaning engine.old) }
-    ensures ready { IsOpen (by_meaning B.meaning engine.new) }
+    requires ready { IsOpenForProgram (by_meaning B.meaning engine.old) }
+    ensures ready { IsOpenForProgram (by_meaning B.meaning engine.new) }
     ensures ran { HasLabels (engine_graph engine.old) → IfOk result (λ ending. RanObservable (rules_for printing)
         (state_of B.meaning engine.old names.names) (H.left shelf.old) (K.written sink.old) (K.written sink.new) (status_at ending)
         (IsIn (by_meaning B.meaning engine.new))) }

@@ -2,7 +2,7 @@
 ghost use Rattle.std.specs.Prelude.{◌≡◌, ◌≢◌, ◌<◌, true, None};
 ghost use Rattle.index_api.specs.declared.kinds.Via.TheVariants.{Data};
 ghost use Rattle.pathindex_core.specs.Engines.{IsSound, by_meaning};
-ghost use Rattle.pathindex_core.specs.EngineTerms.{IsClosed, IsOpened};
+ghost use Rattle.pathindex_core.specs.EngineTerms.{IsUnopened, IsOpened};
 
 use graph_update::{Applied, Change, Step};
 use index_api::{PathIndex, Via};
@@ -28,7 +28,7 @@ pub(crate) fn opens<B: PathIndex>(
     graph: Option<Graph>,
     limits: Limits,
 ) -> bool
-    requires closed { IsClosed engine.old }
+    requires closed { IsUnopened engine.old }
     requires sound { IsSound (by_meaning B.meaning engine.old) }
     ensures open { result ≡ true → IsOpened engine.new }
     ensures sound { IsSound (by_meaning B.meaning engine.new) }

@@ -1,7 +1,7 @@
 // Candidates that are few in a graph of some size, so that they are checked over what leads to them.
 ghost use Rattle.std.specs.Prelude.{◌≡◌, ◌<◌};
 ghost use Rattle.pathindex_core.specs.Engines.{IsSound, by_meaning};
-ghost use Rattle.pathindex_core.specs.EngineTerms.{IsClosed, IsOpened};
+ghost use Rattle.pathindex_core.specs.EngineTerms.{IsUnopened, IsOpened};
 
 use crate::calls::opens;
 use crate::full_tests::path_gives;
@@ -71,7 +71,7 @@ fn few_are_checked<B: PathIndex>(engine: &mut Engine<B>, alloc: Global) -> bool
 
 /// Whether they do in an engine that is opened with this graph.
 fn opens_and_checks<B: PathIndex>(engine: &mut Engine<B>, alloc: Global, graph: Graph) -> bool
-    requires closed { IsClosed engine.old }
+    requires closed { IsUnopened engine.old }
     requires sound { IsSound (by_meaning B.meaning engine.old) }
 {
     opens(engine, Some(graph), Limits::program()) && few_are_checked(engine, alloc)

@@ -2,7 +2,7 @@
 ghost use Rattle.std.specs.Prelude.{◌≡◌, [], ◌∷◌, Some, None, if◌then◌else◌};
 ghost use Rattle.bisim_spec.specs.declared.kind.Kind.TheVariants.{Fb};
 ghost use Rattle.pathindex_core.specs.Engines.{IsSound, by_meaning};
-ghost use Rattle.pathindex_core.specs.EngineTerms.{IsClosed};
+ghost use Rattle.pathindex_core.specs.EngineTerms.{IsUnopened};
 
 use ak_maintain::AkIndex;
 use graph_update::Change;
@@ -60,7 +60,7 @@ impl PathIndex for FailingIndex {
 pub(crate) trait BoxesTask: Drop {
     /// Does it, and says whether all was as it should be. The engine isn't open yet.
     fn carry_out(self, alloc: Global, engine: &mut Engine) -> bool
-        requires closed { IsClosed engine.old }
+        requires closed { IsUnopened engine.old }
         requires sound { IsSound (by_meaning meaning engine.old) };
 }
 

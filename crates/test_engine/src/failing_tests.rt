@@ -1,7 +1,7 @@
 // A run over all indexes, in which one call on the shelf or the sink fails.
 ghost use Rattle.std.specs.Prelude.{◌≡◌, None};
 ghost use Rattle.pathindex_core.specs.Engines.{IsSound, by_meaning};
-ghost use Rattle.pathindex_core.specs.EngineTerms.{IsClosed};
+ghost use Rattle.pathindex_core.specs.EngineTerms.{IsUnopened};
 
 use crate::script_file::{script_file, script_words};
 use any_index::full_engine;
@@ -52,7 +52,7 @@ fn prefix_of(written: &[u8]) -> Option<usize> {
 
 /// How many bytes the run writes, where it ends with its status and they are the first of the lists.
 fn prefix<B: PathIndex>(alloc: Global, engine: &mut Engine<B>, failing: &Failing) -> Option<usize>
-    requires closed { IsClosed engine.old }
+    requires closed { IsUnopened engine.old }
     requires sound { IsSound (by_meaning B.meaning engine.old) }
 {
     let words = script_words(alloc)?;

@@ -1,7 +1,7 @@
 // One query, through each index and the graph itself.
 ghost use Rattle.std.specs.Prelude.{◌≡◌, ◌<◌};
 ghost use Rattle.pathindex_core.specs.Engines.{IsSound, by_meaning};
-ghost use Rattle.pathindex_core.specs.EngineTerms.{IsClosed, IsOpened};
+ghost use Rattle.pathindex_core.specs.EngineTerms.{IsUnopened, IsOpened};
 
 use crate::calls::opens;
 use any_index::full_engine;
@@ -327,7 +327,7 @@ fn branches_give<B: PathIndex>(engine: &mut Engine<B>, alloc: Global) -> bool
 
 /// Whether each of a few queries has its answers over the small graph, however it is asked.
 fn queries_give<B: PathIndex>(engine: &mut Engine<B>, alloc: Global) -> bool
-    requires closed { IsClosed engine.old }
+    requires closed { IsUnopened engine.old }
     requires sound { IsSound (by_meaning B.meaning engine.old) }
 {
     opens(engine, Graph::new(alloc).ok(), Limits::program())

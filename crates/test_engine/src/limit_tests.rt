@@ -1,7 +1,7 @@
 // An engine with all indexes and room for two nodes.
 ghost use Rattle.std.specs.Prelude.{◌≡◌};
 ghost use Rattle.pathindex_core.specs.Engines.{IsSound, by_meaning};
-ghost use Rattle.pathindex_core.specs.EngineTerms.{IsClosed, IsOpened};
+ghost use Rattle.pathindex_core.specs.EngineTerms.{IsUnopened, IsOpened};
 
 use crate::calls::{FEW, adds_node, fails_to_add, lists, opens};
 use any_index::full_engine;
@@ -46,7 +46,7 @@ fn fills<B: PathIndex>(engine: &mut Engine<B>, alloc: Global) -> bool
 
 /// Whether a third node is refused, and leaves the graph and its indexes as they were.
 fn overfills<B: PathIndex>(engine: &mut Engine<B>, alloc: Global) -> bool
-    requires closed { IsClosed engine.old }
+    requires closed { IsUnopened engine.old }
     requires sound { IsSound (by_meaning B.meaning engine.old) }
 {
     opens(engine, Graph::new(alloc).ok(), FEW)

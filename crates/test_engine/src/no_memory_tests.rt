@@ -1,7 +1,7 @@
 // An engine one of whose boxes finds no memory: what fails leaves all as it was, and what needs no memory there goes on.
 ghost use Rattle.std.specs.Prelude.{◌≡◌, ◌<◌, None};
 ghost use Rattle.pathindex_core.specs.Engines.{IsSound, by_meaning};
-ghost use Rattle.pathindex_core.specs.EngineTerms.{IsClosed, IsOpened};
+ghost use Rattle.pathindex_core.specs.EngineTerms.{IsUnopened, IsOpened};
 
 use crate::calls::{FEW, adds_node, fails_to_add, lists, opens};
 use crate::failing_index::{BoxesTask, with_failing_engine};
@@ -196,7 +196,7 @@ fn shelf_of(alloc: Global, script: &str) -> Option<MemShelf> {
 
 /// Whether it ends so; none where there is no memory for its files.
 fn ends_so<B: PathIndex>(alloc: Global, engine: &mut Engine<B>, allocated: &Run) -> Option<bool>
-    requires closed { IsClosed engine.old }
+    requires closed { IsUnopened engine.old }
     requires sound { IsSound (by_meaning B.meaning engine.old) }
 {
     let words = script_words(alloc)?;

@@ -1,7 +1,7 @@
 // The 1-index of an engine with all indexes, over graphs that it is opened with.
 ghost use Rattle.std.specs.Prelude.{◌≡◌, ◌<◌};
 ghost use Rattle.pathindex_core.specs.Engines.{IsSound, by_meaning};
-ghost use Rattle.pathindex_core.specs.EngineTerms.{IsClosed, IsOpened};
+ghost use Rattle.pathindex_core.specs.EngineTerms.{IsUnopened, IsOpened};
 
 use crate::calls::{lists, opens};
 use crate::full_tests::{adds_both, makes};
@@ -71,7 +71,7 @@ fn part<B: PathIndex>(engine: &mut Engine<B>, alloc: Global) -> bool
 
 /// Whether two rings come apart in an engine that is opened with them, and stay so.
 fn opens_and_parts<B: PathIndex>(engine: &mut Engine<B>, alloc: Global, graph: Graph) -> bool
-    requires closed { IsClosed engine.old }
+    requires closed { IsUnopened engine.old }
     requires sound { IsSound (by_meaning B.meaning engine.old) }
 {
     opens(engine, Some(graph), Limits::program()) && part(engine, alloc)
@@ -134,7 +134,7 @@ fn are_lawful<B: PathIndex>(engine: &mut Engine<B>, alloc: Global) -> bool
 
 /// Whether two rings that come edge by edge, as in `examples/rings.script`, are in a lawful list.
 fn comes_to_law<B: PathIndex>(engine: &mut Engine<B>, alloc: Global) -> bool
-    requires closed { IsClosed engine.old }
+    requires closed { IsUnopened engine.old }
     requires sound { IsSound (by_meaning B.meaning engine.old) }
 {
     opens(engine, Graph::new(alloc).ok(), Limits::program())
