@@ -69,7 +69,7 @@ pub record AreChosen (old new : Partition) (active : ℕ → Bool) (keys : List 
   -- a group keeps its block if it may, else the chosen one was free
   pub each : (k own : ℕ) (key : List ℕ) → k < first → slice_get keys k ≡ Some key → HasFirst key own
       → IsKept old.block_of active retained own k (slice_index chosen k)
-          ⊎ ((at old.labels (slice_index chosen k) ≡ None) × IsNotKept old.block_of active retained own k)
+      ⊎ ((at old.labels (slice_index chosen k) ≡ None) × IsNotKept old.block_of active retained own k)
   -- the chosen block has the label of the group's old block
   pub label : (k own : ℕ) (key : List ℕ) → k < first → slice_get keys k ≡ Some key → HasFirst key own → at new.labels (slice_index chosen k) ≡ at old.labels own
   -- no other blocks are new

@@ -9,7 +9,12 @@ use Rattle.command_line.specs.declared.arguments.Arguments.{Arguments as Argumen
 
 abbrev pub settings_value : SettingsSeen → Settings
 settings_value s = record {
-  script = s.script.now; graph = option_map (λ t. t.now) s.graph; k = s.k; without_one = s.without_one; without_fb = s.without_fb; with_bk = s.with_bk
+  script = s.script.now;
+  graph = option_map (λ t. t.now) s.graph;
+  k = s.k;
+  without_one = s.without_one;
+  without_fb = s.without_fb;
+  with_bk = s.with_bk;
 }
 
 abbrev pub form_value : FormSeen → Form

@@ -57,4 +57,4 @@ pub record IsWalk (hashes heads : List ℕ) (hash m at : ℕ) : Type 0 where
 abbrev pub FindsNewest : {X : Type 0} → List (Slot X) → ℕ → ℕ → Option ℕ → Type 0
 FindsNewest slots hash from found =
     (heads : List ℕ) (m : ℕ) → AreChains (length slots) (hashes_of slots) (links_of slots) heads → m ≤ length slots
-        → IsWalk (hashes_of slots) heads hash m from → IsNewest (hashes_of slots) hash m found
+    → IsWalk (hashes_of slots) heads hash m from → IsNewest (hashes_of slots) hash m found

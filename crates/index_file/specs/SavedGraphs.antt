@@ -75,7 +75,7 @@ blocks_at file j = blocks_of (slice_get file.views j)
 abbrev pub saved_view_code : Coded SavedView
 saved_view_code =
     code_by (Via × List (Option ℕ)) (coded× via_row.coded (coded_list (coded_option coded_ℕ))) (λ v. (v.via, v.block_of))
-      (λ p. record { via = p.0; block_of = p.1 }) (λ _. refl)
+    (λ p. record { via = p.0; block_of = p.1 }) (λ _. refl)
 
 abbrev pub saved_file_code : Coded SavedFile
 saved_file_code =

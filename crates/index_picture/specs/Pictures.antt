@@ -50,7 +50,7 @@ nodes_text names count shown = members_text names shown ++ more_text count (leng
 abbrev pub box_text : List (List ℕ) → List (List ℕ) → ℕ → Partition → Block → List ℕ
 box_text texts names most p b =
     quoted (short_label (label_text texts b.label)) ++ (count_text b.count
-        ++ nodes_text names b.count (firsts_below most (is_member p b.number) (length p.block_of)))
+    ++ nodes_text names b.count (firsts_below most (is_member p b.number) (length p.block_of)))
 
 -- the front of a block's line: its name, which is that of its least node, and what its box says
 abbrev pub block_front : List (List ℕ) → List (List ℕ) → ℕ → Partition → Block → List ℕ
@@ -85,7 +85,7 @@ pair_line edge p r = arrow_text r ++ (support_text r.support ++ (dash_text (cove
 abbrev pub left_text : ℕ → ℕ → List ℕ
 left_text blocks pairs =
     codes "  \"note\" [shape=plaintext style=\"\" label=\"not drawn: "
-        ++ (quoted (decimal blocks) ++ (codes " smaller blocks, " ++ (quoted (decimal pairs) ++ codes " pairs of blocks\"];\n")))
+    ++ (quoted (decimal blocks) ++ (codes " smaller blocks, " ++ (quoted (decimal pairs) ++ codes " pairs of blocks\"];\n")))
 
 -- whether all are drawn
 abbrev pub is_whole : ℕ → ℕ → Bool

@@ -29,7 +29,7 @@ pub record KeptFamily : Type 0 where
 abbrev pub kept_code : Coded KeptFamily
 kept_code =
     code_by (List KeyedQuotient × Option (List KeyedChanges)) (coded× (coded_list keyed_code) (coded_option (coded_list changes_code)))
-      (λ k. (k.base, k.staged))
+    (λ k. (k.base, k.staged))
     (λ p. record { base = p.0; staged = p.1 }) (λ _. refl)
 
 -- what the draft needs to be settled in its base: reserved capacity, and that it shows a family whose keys are as its

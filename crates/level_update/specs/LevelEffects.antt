@@ -72,7 +72,7 @@ abbrev pub HasOwnKey : List KeyedQuotient → List KeyedChanges → ℕ → ℕ 
 HasOwnKey f d zero n = ⊤
 HasOwnKey f d (suc i) n =
     (number : ℕ) × (b : ℕ) × (at (blocks_shown f d i) n ≡ Some number) × (at (blocks_shown f d (suc i)) n ≡ Some b)
-        × (key_shown f d (suc i) b ≡ Some (number ∷ []))
+    × (key_shown f d (suc i) b ≡ Some (number ∷ []))
 
 -- A level on the way to the graph g2: some nodes have come and gone, and supports count the edges of the graph h.
 -- Blocks of the base keep their labels and keys, all keys begin as they must, and nodes that have come are in the

@@ -32,7 +32,10 @@ pub record KeptLists : Type 0 where
 -- what is reserved in the tables of supports, of children and of parents
 abbrev pub reserved_in : KeptPairs → KeptLists → KeptLists → ReservedPairs
 reserved_in supports children parents = record {
-  span = length children.lists; pairs = supports.reserved; children = children.reserved; parents = parents.reserved
+  span = length children.lists;
+  pairs = supports.reserved;
+  children = children.reserved;
+  parents = parents.reserved;
 }
 
 -- each list has as much reserved as before, but this one may have one fewer

@@ -37,8 +37,10 @@ quotient_code =
     code_by ((List (Option ℕ) × (List (Option ℕ) × (ℕ × ℕ))) × (SupportTable × ((ℕ × ℕ) × (List ℕ × List ℕ))))
     (coded× (coded× (coded_list (coded_option coded_ℕ)) (coded× (coded_list (coded_option coded_ℕ)) (coded× coded_ℕ coded_ℕ)))
     (coded× (table.code {R = edge_cmp} (coded× coded_ℕ coded_ℕ) coded_ℕ) (coded× (coded× coded_ℕ coded_ℕ) (coded× (coded_list coded_ℕ) (coded_list coded_ℕ)))))
-    (λ q. ((q.blocks.block_of, (q.blocks.labels, (q.blocks.reserved.nodes, q.blocks.reserved.blocks))),
-      (q.supports, ((q.reserved.span, q.reserved.pairs), (q.reserved.children, q.reserved.parents)))))
+    (λ q. (
+      (q.blocks.block_of, (q.blocks.labels, (q.blocks.reserved.nodes, q.blocks.reserved.blocks))),
+      (q.supports, ((q.reserved.span, q.reserved.pairs), (q.reserved.children, q.reserved.parents))),
+    ))
     (λ p. record {
       blocks = record { block_of = p.0.0; labels = p.0.1.0; reserved = record { nodes = p.0.1.1.0; blocks = p.0.1.1.1 } };
       supports = p.1.0;

@@ -19,7 +19,7 @@ AfterObject cs = (gap : List ℕ) × (after : List ℕ) × (comment : List ℕ) 
 abbrev pub EachLiteral : List ℕ → (Term → List ℕ → Type 0) → Type 0
 EachLiteral bytes P =
     (s r string datatype : List ℕ) (tag : Option (List ℕ)) → IsText bytes (s ++ r) → IsLiteral s string datatype tag → AfterObject r
-        → P (Literal string datatype tag) r
+    → P (Literal string datatype tag) r
 
 -- wherever the bytes are those of what follows the string of a literal, before what may follow an object, P holds of
 -- its datatype, its tag and of what follows
