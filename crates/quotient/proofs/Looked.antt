@@ -1,5 +1,5 @@
 -- A table of supports as its entries, which a hash finds.
-use Rattle.std.proofs.Common.{◌≡◌, ◌≢◌, ℕ, zero, suc, ◌+◌, ◌⊎◌, List, [], ◌∷◌, Option, Some, None, refl, sym, ◌∙◌, ap, arith, inl, inr, true, false, Bool, cond, ◌&&◌, unwrap_or, length, slice_get}
+use Rattle.std.proofs.Common.{◌≡◌, ◌≢◌, ℕ, zero, suc, ◌+◌, ◌⊎◌, List, [], ◌∷◌, Option, Some, None, refl, sym, ◌∙◌, ap, arith, inl, inr, true, false, true≢false, not, Bool, cond, ◌&&◌, unwrap_or, length, slice_get}
 use Rattle.std.specs.Prelude.{nat_eq, nat_lt, is_some}
 use Rattle.std.specs.List.{IsDistinct, AllByRecursion, position_or_len}
 use Rattle.std.proofs.lemmas.Map.Keys.{IsDistinct-head, IsDistinct-tail}
@@ -36,6 +36,10 @@ same_refl x = grind arith
 pub test_is : (b : Bool) → (b ≡ true) ⊎ (b ≡ false)
 test_is true = inl refl
 test_is false = inr refl
+
+-- pairs that a test for others doesn't tell apart are one
+pub not_other : (x y : ℕ × ℕ) → false ≡ not (same x y) → x ≡ y
+not_other x y h = elim (test_is (same x y)) [ inl s ↦ same_is x y s | inr f ↦ absurd (true≢false (sym (h ∙ ap not f))) ]
 
 pub edge_cmp-IsAntisymmetric : map.IsAntisymmetric edge_cmp
 edge_cmp-IsAntisymmetric x y e = same_is x y (sym (tied x y) ∙ ap is_eq e)

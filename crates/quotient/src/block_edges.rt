@@ -8,7 +8,7 @@ ghost use Rattle.quotient.specs.QuotientTables.{IsWritten};
 use crate::block_neighbours::BlockNeighbours;
 use crate::places::Place;
 use crate::supports::Supports;
-use px_base::Memory;
+use px_base::{Memory, Recent};
 use std::alloc::Global;
 
 /// The supports, and the neighbours of each block by them.
@@ -41,7 +41,7 @@ impl BlockEdges {
 
     /// Counts an edge from one block to another.
     #[inline(always)]
-    pub(crate) fn count(&mut self, a: u32, b: u32) -> Result<(), Memory>
+    pub(crate) fn count(&mut self, a: u32, b: u32, recent: &mut Recent) -> Result<(), Memory>
         requires from { a < length self.old.children.lists }
         requires onto { b < length self.old.parents.lists }
         requires few { support_at self.old.supports.pairs a b < 2 ^ 32 - 1 }
@@ -51,7 +51,7 @@ impl BlockEdges {
         ensures children { OnOk result (length self.new.children.lists ≡ length self.old.children.lists) }
         ensures parents { OnOk result (length self.new.parents.lists ≡ length self.old.parents.lists) }
     {
-        if self.supports.raise(a, b)? {
+        if self.supports.raise(a, b, recent)? {
             let place = Place::new(self.children.count(a), self.parents.count(b));
             self.supports.push_place(place)?;
             self.children.push(a, b)?;

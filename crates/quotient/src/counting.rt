@@ -7,7 +7,7 @@ ghost use Rattle.quotient.specs.QuotientNeighbours.{AreNeighbourLists, AreLive, 
 
 use crate::block_edges::BlockEdges;
 use block_partition::Blocks;
-use px_base::{Memory, NodeId};
+use px_base::{Memory, NodeId, Recent};
 use std::alloc::Global;
 
 /// How many pairs of blocks are gathered before they are counted.
@@ -50,7 +50,11 @@ pub(crate) fn gather_edge(
 }
 
 /// Counts the pairs of blocks.
-pub(crate) fn count_pairs(block_edges: &mut BlockEdges, pairs: &[(u32, u32)]) -> Result<(), Memory>
+pub(crate) fn count_pairs(
+    block_edges: &mut BlockEdges,
+    pairs: &[(u32, u32)],
+    recent: &mut Recent,
+) -> Result<(), Memory>
     requires few { (x y : ℕ) → total_support block_edges.old.supports.pairs pairs.now x y ≤ 2 ^ 30 }
     requires below { AreBelow (length block_edges.old.children.lists) pairs.now }
     requires neighbour_lists { AreNeighbourLists block_edges.old.supports.pairs block_edges.old.children.lists block_edges.old.parents.lists }
@@ -61,7 +65,7 @@ pub(crate) fn count_pairs(block_edges: &mut BlockEdges, pairs: &[(u32, u32)]) ->
     ensures parents { OnOk result (length block_edges.new.parents.lists ≡ length block_edges.old.parents.lists) }
 {
     for (a, b) in pairs {
-        block_edges.count(*a, *b)?;
+        block_edges.count(*a, *b, recent)?;
     }
     Ok(())
 }
@@ -71,6 +75,7 @@ pub(crate) fn count_pairs(block_edges: &mut BlockEdges, pairs: &[(u32, u32)]) ->
 pub(crate) fn count_batch(
     block_edges: &mut BlockEdges,
     pairs: &mut Vec<(u32, u32)>,
+    recent: &mut Recent,
 ) -> Result<(), Memory>
     requires few { (x y : ℕ) → total_support block_edges.old.supports.pairs pairs.old.items x y ≤ 2 ^ 30 }
     requires below { AreBelow (length block_edges.old.children.lists) pairs.old.items }
@@ -85,7 +90,7 @@ pub(crate) fn count_batch(
     if pairs.len() < BATCH {
         return Ok(());
     }
-    count_pairs(block_edges, pairs)?;
+    count_pairs(block_edges, pairs, recent)?;
     pairs.clear();
     Ok(())
 }
@@ -108,10 +113,11 @@ pub(crate) fn count_edges(
     let span = blocks.span() as usize;
     let mut block_edges = BlockEdges::new(alloc, span, edges.len().min(2 * span), true)?;
     let mut pairs = Vec::with_capacity(alloc, BATCH)?;
+    let mut recent = Recent::new(alloc)?;
     for (from, onto) in edges {
         gather_edge(&mut pairs, blocks, *from, *onto)?;
-        count_batch(&mut block_edges, &mut pairs)?;
+        count_batch(&mut block_edges, &mut pairs, &mut recent)?;
     }
-    count_pairs(&mut block_edges, &pairs)?;
+    count_pairs(&mut block_edges, &pairs, &mut recent)?;
     Ok(block_edges)
 }

@@ -9,7 +9,7 @@ use crate::block_edges::BlockEdges;
 use crate::counting::{BATCH, count_batch, count_pairs, gather_edge};
 use block_partition::Blocks;
 use label_graph::{Digraph, GraphView};
-use px_base::{Memory, NodeId};
+use px_base::{Memory, NodeId, Recent};
 use std::alloc::Global;
 
 // Gathers and counts the edges from a node to children.
@@ -17,6 +17,7 @@ use std::alloc::Global;
 fn count_children(
     block_edges: &mut BlockEdges,
     pairs: &mut Vec<(u32, u32)>,
+    recent: &mut Recent,
     blocks: &Blocks,
     n: NodeId,
     children: &[NodeId],
@@ -36,7 +37,7 @@ fn count_children(
 {
     for child in children {
         gather_edge(pairs, blocks, n, *child)?;
-        count_batch(block_edges, pairs)?;
+        count_batch(block_edges, pairs, recent)?;
     }
     Ok(())
 }
@@ -46,6 +47,7 @@ fn count_children(
 fn count_node(
     block_edges: &mut BlockEdges,
     pairs: &mut Vec<(u32, u32)>,
+    recent: &mut Recent,
     view: &GraphView<'_>,
     blocks: &Blocks,
     n: NodeId,
@@ -66,7 +68,7 @@ fn count_node(
     if !view.is_node(n) {
         return Ok(());
     }
-    count_children(block_edges, pairs, blocks, n, view.children(n))?;
+    count_children(block_edges, pairs, recent, blocks, n, view.children(n))?;
     Ok(())
 }
 
@@ -87,9 +89,10 @@ pub(crate) fn count_graph(
     let edges = view.edge_count() as usize;
     let mut block_edges = BlockEdges::new(alloc, span, edges.min(2 * span), is_noting)?;
     let mut pairs = Vec::with_capacity(alloc, BATCH)?;
+    let mut recent = Recent::new(alloc)?;
     for n in 0..view.size() {
-        count_node(&mut block_edges, &mut pairs, view, blocks, n)?;
+        count_node(&mut block_edges, &mut pairs, &mut recent, view, blocks, n)?;
     }
-    count_pairs(&mut block_edges, &pairs)?;
+    count_pairs(&mut block_edges, &pairs, &mut recent)?;
     Ok(block_edges)
 }

@@ -20,8 +20,8 @@ impl Place {
     }
 }
 
-// A place as it is noted. Lists are never so long that it doesn't fit.
-fn noted(place: usize) -> u32 {
+/// A place as it is noted. Lists are never so long that it doesn't fit.
+pub(crate) fn noted(place: usize) -> u32 {
     u32::try_from(place).unwrap_or(u32::MAX)
 }
 

@@ -1,13 +1,13 @@
 // How many edges lead from one block to another.
-ghost use Rattle.std.specs.Prelude.{◌≡◌, ◌+◌, ◌-◌, ◌<◌, ◌≤◌, ◌^◌, IfOk, OnOk, nat_eq};
+ghost use Rattle.std.specs.Prelude.{◌≡◌, ◌+◌, ◌-◌, ◌<◌, ◌≤◌, ◌^◌, false, IfOk, OnOk, IsTrue, IsFalse, nat_eq};
 ghost use Rattle.std.specs.FinMap as map;
 ghost use Rattle.bisim_spec.specs.IndexGraphs.{support_at};
 ghost use Rattle.quotient.specs.Quotients.{pair_count, with_support};
 ghost use Rattle.quotient.specs.QuotientNeighbours.{with_one_more};
 
-use crate::places::{Place, Places};
+use crate::places::{Place, Places, noted};
 use indexmap::IndexMap;
-use px_base::Memory;
+use px_base::{Memory, Recent};
 use std::alloc::Global;
 use std::marker::Model;
 
@@ -152,21 +152,59 @@ impl Supports {
         }
     }
 
-    /// Counts one more edge, and answers whether it is the first of its pair.
+    /// Counts one more edge, and answers whether it is the first of its pair. A pair that was counted a short time ago is
+    /// found without a hash.
     #[inline(always)]
-    pub(crate) fn raise(&mut self, a: u32, b: u32) -> Result<bool, Memory>
+    pub(crate) fn raise(&mut self, a: u32, b: u32, recent: &mut Recent) -> Result<bool, Memory>
         requires few { support_at self.old.pairs a b < 2 ^ 32 - 1 }
         ensures raised { OnOk result (self.new.pairs ≡ with_one_more self.old.pairs a b) }
         ensures first { IfOk result (λ first. first ≡ nat_eq (support_at self.old.pairs a b) 0) }
     {
+        if self.raise_at(recent.get(a, b) as usize, a, b) {
+            return Ok(false);
+        }
+        let (i, first) = self.raise_by_hash(a, b)?;
+        recent.put(a, b, noted(i));
+        Ok(first)
+    }
+
+    // Counts one more edge of a pair, if the pair has this index in the table.
+    #[inline(always)]
+    fn raise_at(&mut self, i: usize, a: u32, b: u32) -> bool
+        requires few { support_at self.old.pairs a b < 2 ^ 32 - 1 }
+        ensures raised { IsTrue result → self.new.pairs ≡ with_one_more self.old.pairs a b }
+        ensures not_first { IsTrue result → false ≡ nat_eq (support_at self.old.pairs a b) 0 }
+        ensures same { IsFalse result → self.new ≡ self.old }
+    {
+        let Some((pair, n)) = self.table.get_index(i) else {
+            return false;
+        };
+        if *pair != (a, b) {
+            return false;
+        }
+        let n = *n;
+        let Some(count) = self.table.get_index_mut(i) else {
+            unreachable!()
+        };
+        *count = n + 1;
+        true
+    }
+
+    // Counts one more edge of a pair that is found by hash, and answers its index and whether the edge is its first.
+    #[inline(always)]
+    fn raise_by_hash(&mut self, a: u32, b: u32) -> Result<(usize, bool), Memory>
+        requires few { support_at self.old.pairs a b < 2 ^ 32 - 1 }
+        ensures raised { OnOk result (self.new.pairs ≡ with_one_more self.old.pairs a b) }
+        ensures first { IfOk result (λ found. found.1 ≡ nat_eq (support_at self.old.pairs a b) 0) }
+    {
         let (i, before) = self.table.insert_full((a, b), 1)?;
         let Some(n) = before else {
-            return Ok(true);
+            return Ok((i, true));
         };
         let Some(count) = self.table.get_index_mut(i) else {
             unreachable!()
         };
         *count = n + 1;
-        Ok(false)
+        Ok((i, false))
     }
 }

@@ -7,7 +7,7 @@ use Rattle.indexmap.proofs.CallerLemmas.{updates-with_value_at}
 use Rattle.quotient.specs.QuotientNeighbours.{IsPositive}
 use Rattle.quotient.proofs.Looked.{same_laws, written, twice, stands_put, positive_with, found_in, supported_not_zero}
 use Rattle.quotient.specs.QuotientTables.{KeptPairs}
-use Rattle.quotient.proofs.supports.Supports.raise.Goals as goal
+use Rattle.quotient.proofs.supports.Supports.raise_by_hash.Goals as goal
 
 pub overflow_add-count : goal.overflow_add-count
 overflow_add-count c =
