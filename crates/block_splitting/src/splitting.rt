@@ -17,8 +17,9 @@ use label_graph::GraphView;
 use px_base::{Memory, NodeId};
 use std::alloc::Global;
 
-/// Memory that each round reuses: one key, the group of each node, and for each block the group that may keep the
-/// block's number. It takes 4 bytes for each node number, and 4 to 8 for each block number.
+/// Memory that each round reuses: the table of keys, one key, the group of each node, and for each block the group that
+/// may keep the block's number. It takes 4 bytes for each node number, 4 to 8 for each block number, and what the keys of
+/// the largest round take.
 ///
 /// One round by parents, over the active nodes:
 ///
@@ -26,6 +27,7 @@ use std::alloc::Global;
 ///     let moved = split(alloc, &view, Side::Parents, &mut blocks, &active_nodes, &mut tables)?;
 #[derive(Drop)]
 pub struct Tables {
+    pub(crate) keys: KeyTable,
     pub(crate) key: Vec<u32>,
     pub(crate) group: Vec<u32>,
     pub(crate) retained: Vec<u32>,
@@ -37,6 +39,7 @@ impl Tables {
         ensures { IfOk result (λ t. vec_len t.group ≡ size) }
     {
         Ok(Tables {
+            keys: KeyTable::new(alloc)?,
             key: Vec::new(alloc),
             group: vec![in alloc; 0; size as usize]?,
             retained: Vec::new(alloc),
@@ -72,13 +75,14 @@ pub fn split(
     // Called for its contract: nodes have live blocks.
     let _known = blocks.span();
     let nodes = active_nodes.nodes();
-    let mut keys = KeyTable::new(alloc)?;
     let Tables {
+        keys,
         key,
         group,
         retained,
     } = tables;
-    group_nodes(&mut keys, key, group, view, side, blocks, nodes)?;
-    let moved = part(alloc, blocks, active_nodes, &keys, group, retained)?;
+    keys.clear();
+    group_nodes(keys, key, group, view, side, blocks, nodes)?;
+    let moved = part(alloc, blocks, active_nodes, keys, group, retained)?;
     Ok(moved)
 }
