@@ -37,7 +37,7 @@ run:
 	@$(call unproved,examples/foaf.script,examples/foaf.nt) >$(abspath bin/unproved.out) 2>$(abspath bin/run.log) \
 		|| { status=$$?; cat $(abspath bin/run.log bin/unproved.out); exit $$status; }
 	@sed 's/^/    /' bin/unproved.out
-	@echo 'Proving and building bin/pathindex. The first time takes about half an hour on four cores; bin/run.log lists the crates that are proved.'
+	@echo 'Proving and building bin/pathindex. The first time takes about an hour on four cores; bin/run.log lists the crates that are proved.'
 	@(cd $(PROGRAM) && rt all check --jobs $(JOBS)) >bin/run.log 2>&1 || { status=$$?; cat bin/run.log; exit $$status; }
 	@cd $(PROGRAM) && rt run -- ../../examples/foaf.script --graph ../../examples/foaf.nt >../../bin/foaf.out 2>>../../bin/run.log \
 		|| { status=$$?; cat ../../bin/run.log ../../bin/foaf.out; exit $$status; }
@@ -60,7 +60,7 @@ library:
 	@$(NEEDS_RT)
 	@command -v cc >/dev/null || { echo "make library: cc isn't on the path; apt-get install gcc brings it" >&2; exit 1; }
 	@mkdir -p bin
-	@echo 'Proving and building the library. The first time takes about half an hour on four cores; bin/library.log lists the crates that are proved.'
+	@echo 'Proving and building the library. The first time takes about an hour on four cores; bin/library.log lists the crates that are proved.'
 	@(cd $(LIBRARY) && rt all check --jobs $(JOBS) && rt lib) >bin/library.log 2>&1 || { status=$$?; cat bin/library.log; exit $$status; }
 	tools/build_library.sh $(LIBRARY)/out/libpathindex_c.a $(HEAP) bin
 	@echo 'bin/libpathindex.a and bin/libpathindex.so are built; include/pathindex.h and python/pathindex.py use them.'
@@ -68,7 +68,7 @@ library:
 pictures:
 	@$(NEEDS_RT)
 	@mkdir -p bin
-	@echo 'Proving and building bin/pathindex_dot. The first time takes about half an hour on four cores; bin/pictures.log lists the crates that are proved.'
+	@echo 'Proving and building bin/pathindex_dot. The first time takes about an hour on four cores; bin/pictures.log lists the crates that are proved.'
 	@(cd $(PICTURES) && rt all check --jobs $(JOBS)) >bin/pictures.log 2>&1 || { status=$$?; cat bin/pictures.log; exit $$status; }
 	@cd $(PICTURES) && rt run -- ../../examples/foaf.nt >../../bin/foaf.dot 2>>../../bin/pictures.log \
 		|| { status=$$?; cat ../../bin/pictures.log ../../bin/foaf.dot; exit $$status; }

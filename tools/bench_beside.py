@@ -4,7 +4,7 @@ g++ is on the path. The gate doesn't run this.
 
     bench_beside.py [PROGRAM]
 
-PROGRAM is run in place of bin/pathindex. Times are processor times, the least of some turns, in which both are run one after the other. A
+PROGRAM is run instead of bin/pathindex. Times are processor times, the least of some turns, in which both are run one after the other. A
 build, a query and an update are what a run takes beyond the same run without it. Of the program's queries each is asked with its own index
 alone. An update is one of 2,000 changes: a node, two links from it and an unlink, in turn.
 """

@@ -5,7 +5,7 @@ The gate doesn't run this.
 
     bench_edits.py [PROGRAM]
 
-PROGRAM is run in place of bin/pathindex. Half of the first triples are deleted ones of the graph. The others join terms of three of its
+PROGRAM is run instead of bin/pathindex. Half of the first triples are deleted ones of the graph. The others join terms of three of its
 lines; of four in turn one brings a new subject, one a new predicate and one a new object. Times are processor times, the best of some
 turns, less that of the same run without inserts and deletes.
 """

@@ -4,7 +4,7 @@ gate doesn't run this.
 
     bench_files.py [PROGRAM]
 
-PROGRAM is run in place of bin/pathindex. Times are processor times, the best of some turns. That of a save is less that of a run that
+PROGRAM is run instead of bin/pathindex. Times are processor times, the best of some turns. That of a save is less that of a run that
 computes the same indexes. A check is a whole process; what it takes to read the file alone is that of a check of the same file without
 views.
 

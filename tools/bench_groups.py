@@ -5,7 +5,7 @@ takes beside a build of the same indexes, which reads each edge once for each le
 
     bench_groups.py [PROGRAM [EDGES]]
 
-PROGRAM is run in place of bin/pathindex. EDGES says how many edges that node has, 200,000 where it isn't given. Times are processor
+PROGRAM is run instead of bin/pathindex. EDGES says how many edges that node has, 200,000 where it isn't given. Times are processor
 times, the best of some turns, and differences of whole processes: of the A(k)-indexes up to A(2) alone, of the 1-index alone, and of
 the bounded forward and backward indexes.
 """

@@ -5,7 +5,7 @@ branching query takes of the graph and through the forward and backward index. T
 
     bench_indexes.py [PROGRAM]
 
-PROGRAM is run in place of bin/pathindex. Times are processor times, the best of some turns, and differences of whole processes.
+PROGRAM is run instead of bin/pathindex. Times are processor times, the best of some turns, and differences of whole processes.
 """
 import os
 import pathlib

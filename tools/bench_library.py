@@ -4,7 +4,7 @@ library copies out and the program writes to nowhere; then what an empty call ta
 
     bench_library.py [PROGRAM]
 
-PROGRAM is run in place of bin/pathindex. It needs bin/libpathindex.a, which `make library` builds, and `cc`. Times are processor times,
+PROGRAM is run instead of bin/pathindex. It needs bin/libpathindex.a, which `make library` builds, and `cc`. Times are processor times,
 the best of some turns.
 """
 import os

@@ -5,7 +5,7 @@ what that takes above the load, and what a change takes while they are kept. The
 
     bench_load.py [PROGRAM]
 
-PROGRAM is run in place of bin/pathindex. No 1-index and no forward and backward index is kept; bench_indexes.py measures them. A
+PROGRAM is run instead of bin/pathindex. No 1-index and no forward and backward index is kept; bench_indexes.py measures them. A
 load is a run of an empty script that keeps the index of level 0 alone. Times are processor times, user and system, the best of some
 turns, and of whole processes.
 """

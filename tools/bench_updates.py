@@ -6,7 +6,7 @@ all indexes. The gate doesn't run this.
 
     bench_updates.py [PROGRAM [PARENTS]]
 
-PROGRAM is run in place of bin/pathindex. PARENTS says how many parents that node has, 20,000 where it isn't given. The other updates are
+PROGRAM is run instead of bin/pathindex. PARENTS says how many parents that node has, 20,000 where it isn't given. The other updates are
 a node, two links from it and an unlink, in turn. Times are processor times, the best of some turns. That of the updates is less that
 of the same run without them, and that of a build less that of a run without the index; of the A(k)-indexes it is A(1) and A(2), since
 A(0) is kept in each run, and the bounded ones are built beside these.

@@ -7,7 +7,7 @@ and its exit status, must be what the definitions in check_by_definition.py give
 must be the same nodes. The first output that is wrong ends the tool with the status 1.
 
 Before that the facts in crates/pathindex_main/stdout, which the program writes for the seed 1, are compared with those of the whole texts
-of that seed. They are found in Python alone, by keys of nodes in place of pairs: the classes of each index are refined until they stay, and
+of that seed. They are found in Python alone, by keys of nodes instead of pairs: the classes of each index are refined until they stay, and
 walks are followed from node to node. With no PROGRAM that is all. Else the program is asked over its whole graph file too, after the first 40
 changes, and the nodes of each answer are compared.
 """

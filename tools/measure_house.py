@@ -1,8 +1,8 @@
 #!/usr/bin/env python3
 """Prints how long and how many things are in this repository: measure_house.py [TIMES], where TIMES is a file that tools/time_gate.py wrote.
 
-The source lines over 160 bytes, indentation included, the functions with more than twelve clauses of their own, the words of README.md and
-docs/*.md, the must-fail edits and the longest source files; and, from TIMES, the table of what each crate takes of the processor.
+The source lines over 160 bytes and the lines of definitions over 160 characters, indentation included and imports apart, the functions with
+more than twelve clauses of their own, the words of README.md and docs/*.md, the must-fail edits and the longest source files; and, from TIMES, the table of what each crate takes of the processor.
 """
 import pathlib
 import re
@@ -17,6 +17,12 @@ FUNCTION = re.compile(r"(?:pub(?:\([a-z]+\))? )?(?:unsafe )?(?:const )?fn (\w+)"
 def sources():
     """Yields each source file with its path below crates/ and its lines."""
     for file in sorted(ROOT.glob("crates/*/src/**/*.rt")):
+        yield str(file.relative_to(ROOT / "crates")), file.read_text().splitlines()
+
+
+def definitions():
+    """Yields the same of each file of definitions."""
+    for file in sorted(ROOT.glob("crates/*/specs/**/*.antt")):
         yield str(file.relative_to(ROOT / "crates")), file.read_text().splitlines()
 
 
@@ -45,6 +51,9 @@ def show_contracts():
         many += [f"{path}:{number} {name} {count}" for (number, name), count in clauses(lines).items() if count > MOST_CLAUSES]
     show(f"source lines over {LONGEST} bytes", long)
     show(f"functions with more than {MOST_CLAUSES} clauses", many)
+    defined = [(path, number, line) for path, lines in definitions() for number, line in enumerate(lines, 1)]
+    show(f"definition lines over {LONGEST} characters", [f"{path}:{number} {len(line)}" for path, number, line in defined
+                                                          if len(line) > LONGEST and not re.match(r"(pub )?use ", line)])
 
 
 def show_words():
