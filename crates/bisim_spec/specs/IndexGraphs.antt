@@ -15,6 +15,7 @@ SupportTable = table.FinMap edge_cmp ℕ
 abbrev pub support_at : SupportTable → ℕ → ℕ → ℕ
 support_at supports a b = unwrap_or (table.get supports (a, b)) 0
 
+-- the block of each node, the label of each block, and the support of each pair of blocks
 pub record View : Type 0 where
   -- the block of each node
   pub block_of : List (Option ℕ)

@@ -4,9 +4,11 @@ use Rattle.std.specs.Prelude.{ℕ, ◌+◌, Bool, if◌then◌else◌}
 use Rattle.graph_spec.specs.Shapes.{Shape}
 use Rattle.bisim_spec.specs.Below.{count_below, sum_below}
 
+-- how many numbers below the size are parents of the node
 abbrev pub parent_count : Shape → ℕ → ℕ
 parent_count s n = count_below s.size (λ p. s.edge p n)
 
+-- how many numbers below the size are children of the node
 abbrev pub child_count : Shape → ℕ → ℕ
 child_count s n = count_below s.size (s.edge n)
 

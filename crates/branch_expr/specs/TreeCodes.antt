@@ -113,7 +113,9 @@ mutual
   cond_inj (group x0) always p = absurd (apart 1 3 p (omega arith))
   cond_inj (rel x0 x1 x2) (fails y0) p = absurd (apart 2 0 p (omega arith))
   cond_inj (rel x0 x1 x2) (group y0) p = absurd (apart 2 1 p (omega arith))
-  cond_inj (rel x0 x1 x2) (rel y0 y1 y2) p = λ i. rel (axis_inj x0 y0 (ap (λ g. head (tail g)) p) i) (step_inj x1 y1 (ap (λ g. head (tail (tail g))) p) i) (chain_inj x2 y2 (ap (λ g. tail (tail (tail g))) p) i)
+  cond_inj (rel x0 x1 x2) (rel y0 y1 y2) p =
+      λ i. rel (axis_inj x0 y0 (ap (λ g. head (tail g)) p) i) (step_inj x1 y1 (ap (λ g. head (tail (tail g))) p) i)
+      (chain_inj x2 y2 (ap (λ g. tail (tail (tail g))) p) i)
   cond_inj (rel x0 x1 x2) always p = absurd (apart 2 3 p (omega arith))
   cond_inj always (fails y0) p = absurd (apart 3 0 p (omega arith))
   cond_inj always (group y0) p = absurd (apart 3 1 p (omega arith))
@@ -124,7 +126,9 @@ mutual
   chain_inj end end p = refl
   chain_inj end (go y0 y1 y2) p = absurd (apart 0 1 p (omega arith))
   chain_inj (go x0 x1 x2) end p = absurd (apart 1 0 p (omega arith))
-  chain_inj (go x0 x1 x2) (go y0 y1 y2) p = λ i. go (axis_inj x0 y0 (ap (λ g. head (tail g)) p) i) (step_inj x1 y1 (ap (λ g. head (tail (tail g))) p) i) (chain_inj x2 y2 (ap (λ g. tail (tail (tail g))) p) i)
+  chain_inj (go x0 x1 x2) (go y0 y1 y2) p =
+      λ i. go (axis_inj x0 y0 (ap (λ g. head (tail g)) p) i) (step_inj x1 y1 (ap (λ g. head (tail (tail g))) p) i)
+      (chain_inj x2 y2 (ap (λ g. tail (tail (tail g))) p) i)
 
 abbrev branch_code : Branch → Gv
 branch_code (branch x0 x1) = gcons (step_code x0) (chain_code x1)

@@ -27,18 +27,22 @@ abbrev mutual
   pub Meets : Shape → Step → ℕ → Type 0
   Meets s (step t ps) v = Passes s t v × HoldAll s ps v
 
+  -- each predicate holds at the node
   pub HoldAll : Shape → Preds → ℕ → Type 0
   HoldAll s none v = Unit {0}
   HoldAll s (pred o ps) v = HoldsOr s o v × HoldAll s ps v
 
+  -- one of the alternatives holds at the node
   pub HoldsOr : Shape → Or → ℕ → Type 0
   HoldsOr s (one a) v = HoldsAnd s a v
   HoldsOr s (or a o) v = HoldsAnd s a v ⊎ HoldsOr s o v
 
+  -- each condition holds at the node
   pub HoldsAnd : Shape → And → ℕ → Type 0
   HoldsAnd s (lone c) v = HoldsCond s c v
   HoldsAnd s (and c a) v = HoldsCond s c v × HoldsAnd s a v
 
+  -- what is denied fails, what stands in parentheses holds, or some nodes lead on from this one, each meeting its step; `always` holds
   pub HoldsCond : Shape → Cond → ℕ → Type 0
   HoldsCond s (fails o) v = HoldsOr s o v → ⊥
   HoldsCond s (group o) v = HoldsOr s o v

@@ -18,27 +18,33 @@ further above d = None
 
 -- how far from the node the parts of a predicate look; none where there is no bound
 abbrev mutual
+  -- as far as the predicates of the step look
   pub step_depth : Step → Option ℕ
   step_depth (step t ps) = preds_depth ps
 
+  -- as far as the one that looks furthest; not beyond the node where there is none
   pub preds_depth : Preds → Option ℕ
   preds_depth none = Some 0
   preds_depth (pred o ps) = greater (or_depth o) (preds_depth ps)
 
+  -- as far as the alternative that looks furthest
   pub or_depth : Or → Option ℕ
   or_depth (one a) = and_depth a
   or_depth (or a o) = greater (and_depth a) (or_depth o)
 
+  -- as far as the condition that looks furthest
   pub and_depth : And → Option ℕ
   and_depth (lone c) = cond_depth c
   and_depth (and c a) = greater (cond_depth c) (and_depth a)
 
+  -- as far as what stands in parentheses, or one axis further than the step and its chain; 0 where it holds everywhere
   pub cond_depth : Cond → Option ℕ
   cond_depth (fails o) = or_depth o
   cond_depth (group o) = or_depth o
   cond_depth (rel a st ch) = further a (greater (step_depth st) (chain_depth ch))
   cond_depth always = Some 0
 
+  -- one axis further than its first step and the chain behind it; 0 at the end
   pub chain_depth : Chain → Option ℕ
   chain_depth end = Some 0
   chain_depth (go a st ch) = further a (greater (step_depth st) (chain_depth ch))

@@ -28,6 +28,7 @@ EndsToken and_word rest = EndsName rest
 EndsToken or_word rest = EndsName rest
 EndsToken nothing rest = Unit {0}
 
+-- '/', '//', '\' or '\\'
 abbrev pub axis_text : Axis → List ℕ
 axis_text child = 47 ∷ []
 axis_text below = 47 ∷ 47 ∷ []
@@ -53,6 +54,7 @@ abbrev pub canonical : Branch → List ℕ
 canonical q = flat_map token_text (tokens q)
 
 module _ (SpellsLabel : List ℕ → List ℕ → Type 0) where
+  -- w spells the token: a label as `SpellsLabel` says, 'and' and 'or' without blanks; no text spells what has none
   abbrev pub SpellsToken : List ℕ → Token → Type 0
   SpellsToken w (lab t) = SpellsLabel w t
   SpellsToken w underscore = w ≡ token_text underscore
@@ -66,11 +68,13 @@ module _ (SpellsLabel : List ℕ → List ℕ → Type 0) where
   SpellsToken w or_word = w ≡ codes "or"
   SpellsToken w nothing = ⊥
 
+  -- the text spells the tokens in their order, each as long as can be, with blanks or none before each and at the end
   abbrev pub SpellsTokens : List ℕ → List Token → Type 0
   SpellsTokens text [] = AreBlanks text
   SpellsTokens text (t ∷ ts) =
       (before : List ℕ) × (word : List ℕ) × (rest : List ℕ) × AreBlanks before × SpellsToken word t × EndsToken t rest × SpellsTokens rest ts
       × (text ≡ before ++ (word ++ rest))
 
+  -- the text spells the tokens of the query
   abbrev pub Spells : List ℕ → Branch → Type 0
   Spells text q = SpellsTokens text (tokens q)

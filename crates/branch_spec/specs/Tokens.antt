@@ -2,6 +2,7 @@
 use Rattle.std.specs.Prelude.{ℕ, List, [], ◌∷◌}
 use Rattle.branch_spec.specs.Trees.{Axis, Test, label, any, Step, step, Preds, none, pred, Or, one, or, And, lone, and, Cond, fails, group, rel, always, Chain, end, go, Branch, branch}
 
+-- what the text of a query is made of, but for its blanks
 pub data Token : Type 0 where
   -- a label, by its text
   lab : List ℕ → Token
@@ -28,34 +29,42 @@ test_onto (label t) r = lab t ∷ r
 test_onto any r = underscore ∷ r
 
 abbrev mutual
+  -- the test, and the predicates behind it
   pub step_onto : Step → List Token → List Token
   step_onto (step t ps) r = test_onto t (preds_onto ps r)
 
+  -- each predicate between brackets
   pub preds_onto : Preds → List Token → List Token
   preds_onto none r = r
   preds_onto (pred o ps) r = left ∷ or_onto o (right ∷ preds_onto ps r)
 
+  -- the alternatives, with 'or' between them
   pub or_onto : Or → List Token → List Token
   or_onto (one a) r = and_onto a r
   or_onto (or a o) r = and_onto a (or_word ∷ or_onto o r)
 
+  -- the conditions, with 'and' between them
   pub and_onto : And → List Token → List Token
   and_onto (lone c) r = cond_onto c r
   and_onto (and c a) r = cond_onto c (and_word ∷ and_onto a r)
 
+  -- what is denied, behind 'not' and in parentheses; what stands in parentheses; or an axis, a step and its chain
   pub cond_onto : Cond → List Token → List Token
   cond_onto (fails o) r = not_word ∷ opening ∷ or_onto o (closing ∷ r)
   cond_onto (group o) r = opening ∷ or_onto o (closing ∷ r)
   cond_onto (rel a st ch) r = axis a ∷ step_onto st (chain_onto ch r)
   cond_onto always r = nothing ∷ r
 
+  -- each step behind its axis
   pub chain_onto : Chain → List Token → List Token
   chain_onto end r = r
   chain_onto (go a st ch) r = axis a ∷ step_onto st (chain_onto ch r)
 
+-- the first step, and its chain behind it
 abbrev pub onto : Branch → List Token → List Token
 onto (branch st ch) r = step_onto st (chain_onto ch r)
 
+-- the tokens of the whole query
 abbrev pub tokens : Branch → List Token
 tokens q = onto q []
 

@@ -40,6 +40,7 @@ mutual
     lone : Cond → And
     and : Cond → And → And
 
+  -- what must hold at a node
   pub data Cond : Type 0 where
     -- 'not', and what is denied in parentheses
     fails : Or → Cond

@@ -9,6 +9,7 @@ use Rattle.change_spec.specs.Lost.{lost_onto, lost_from}
 abbrev pub parents_cost : Graph → Graph → ℕ → ℕ
 parents_cost g g2 n = 1 + parent_count (shape_of g2) n + lost_onto g g2 n
 
+-- a step, one for each child in the graph after, and one for each that the change takes away
 abbrev pub children_cost : Graph → Graph → ℕ → ℕ
 children_cost g g2 n = 1 + child_count (shape_of g2) n + lost_from g g2 n
 

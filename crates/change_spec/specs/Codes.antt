@@ -22,6 +22,7 @@ with_parts (inr (inr (inl e))) = unlink e.0 e.1
 with_parts (inr (inr (inr (inl u)))) = drop u
 with_parts (inr (inr (inr (inr e)))) = relabel e.0 e.1
 
+-- the parts of a step make the step again
 pub whole_again : (s : Step) → with_parts (step_parts s) ≡ s
 whole_again (node t) = refl
 whole_again (link u v) = refl
@@ -29,6 +30,7 @@ whole_again (unlink u v) = refl
 whole_again (drop u) = refl
 whole_again (relabel u t) = refl
 
+-- a step is stored as its parts
 abbrev pub step_code : Coded Step
 step_code =
     code_by Parts
@@ -38,5 +40,6 @@ step_code =
     (coded⊎ coded_ℕ (coded× coded_ℕ (coded_list coded_ℕ))))))
     step_parts with_parts whole_again
 
+-- steps are stored one by one, in their order
 abbrev pub steps_code : Coded (List Step)
 steps_code = coded_list step_code

@@ -53,9 +53,11 @@ added_from (unlink u v) rest n = []
 added_from (drop u) rest n = []
 added_from (relabel u t) rest n = []
 
+-- the children that come with links
 abbrev pub new_children : List Step → ℕ → List ℕ
 new_children [] n = []
 new_children (s ∷ ss) n = added_from s ss n ++ new_children ss n
 
+-- the children that n will have, where it has these
 abbrev pub shown_children : List Step → ℕ → List ℕ → List ℕ
 shown_children c n children = filter (λ m. not (concerned c n m)) children ++ new_children c n

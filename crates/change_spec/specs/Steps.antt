@@ -7,6 +7,7 @@ use Rattle.graph_spec.specs.declared.refusal.Refusal.TheVariants.{NoNode, NoEdge
 use Rattle.graph_spec.specs.Graphs.{Graph, label_of, is_live, has_edge, is_seen}
 use Rattle.graph_spec.specs.Changes.{with_label, with_node, with_edge, without_edge, node_fits, edge_fits}
 
+-- a node or an edge is added or taken away, or a node gets a label
 pub data Step : Type 0 where
   -- one more node, with this label
   node : List ℕ → Step

@@ -6,5 +6,6 @@ use Rattle.graph_load.specs.declared.hashed.HashedTriple.{HashedTriple}
 abbrev pub triple_of : HashedTriple → Triple
 triple_of t = record { subject = t.subject; predicate = t.predicate; object = t.object }
 
+-- the triple, with the hashes of its terms
 abbrev pub hashed : Triple → HashedTriple
 hashed t = record { subject = t.subject; predicate = t.predicate; object = t.object }

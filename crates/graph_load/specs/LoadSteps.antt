@@ -110,10 +110,12 @@ abbrev pub at_line : ℕ → Result LoadState Refusal → Result LoadState ℕ
 at_line n (Ok l) = Ok l
 at_line n (Err r) = Err n
 
+-- what is loaded next, unless the number of a line was answered
 abbrev pub then_load : Result LoadState ℕ → (LoadState → Result LoadState ℕ) → Result LoadState ℕ
 then_load (Ok l) f = f l
 then_load (Err n) f = Err n
 
+-- the waiting triple is loaded, or the number of its line is answered
 abbrev pub with_one : Limits → Waiting → LoadState → Result LoadState ℕ
 with_one limits w l = at_line w.line (with_triple limits (triple_of w.triple) l)
 

@@ -20,6 +20,7 @@ use Rattle.triple_names.specs.TableIndexes.{is_key_of, AreKeysIn}
 abbrev pub load_state : Loader → List (Triple × ℕ) → LoadState
 load_state r triples = record { graph = r.graph.graph; terms = r.terms; triples = triples }
 
+-- whether one of the known keys is that of the triple
 abbrev pub is_known : Loader → Triple → Bool
 is_known r t = list_any (is_key_of r.terms r.predicates t) (keys_of r.known)
 

@@ -31,6 +31,7 @@ Outcome = OutcomeOf Graph
 abbrev pub Ending : Type 0
 Ending = OutcomeOf LoadState
 
+-- the outcome, without the numbers of terms and triples
 abbrev pub outcome_of : Ending → Outcome
 outcome_of (loaded l) = loaded l.graph
 outcome_of (syntax n) = syntax n
@@ -44,6 +45,7 @@ pub record Place : Type 0 where
   pub lines : ℕ
   pub bytes : ℕ
 
+-- nothing is loaded, and no line was taken
 abbrev pub at_start : Place
 at_start = record { state = nothing_loaded; lines = 0; bytes = 0 }
 
@@ -51,6 +53,7 @@ at_start = record { state = nothing_loaded; lines = 0; bytes = 0 }
 abbrev pub past : Place → Line → LoadState → Place
 past p l state = record { state = state; lines = p.lines + 1; bytes = p.bytes + length l.text + length l.end }
 
+-- the line is within the limit on a line, and the bytes up to its end are within the limit on a graph file
 abbrev pub IsWithinFile : Place → Line → Type 0
 IsWithinFile p l = (length l.text ≤ LINE_BYTES) × (p.bytes + length l.text + length l.end ≤ GRAPH_BYTES)
 

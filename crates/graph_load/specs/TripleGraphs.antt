@@ -14,6 +14,7 @@ use Rattle.triples_read.specs.declared.term.Triple.{Triple}
 use Rattle.triple_names.specs.Items.{same_triple, term_label, predicate_label}
 use Rattle.triple_names.specs.Names.{Names}
 
+-- the graph of the triples that were taken, and the numbers of nodes
 pub record LoadState : Type 0 where
   -- the graph of the triples that were taken
   pub graph : Graph
@@ -22,6 +23,7 @@ pub record LoadState : Type 0 where
   -- the triples that were taken, each once, with the numbers of their nodes
   pub triples : List (Triple × ℕ)
 
+-- the empty graph, with no terms and no triples
 abbrev pub nothing_loaded : LoadState
 nothing_loaded = record { graph = empty_graph; terms = []; triples = [] }
 
@@ -29,6 +31,7 @@ nothing_loaded = record { graph = empty_graph; terms = []; triples = [] }
 abbrev pub names_of : LoadState → Names
 names_of l = record { terms = l.terms; triples = l.triples }
 
+-- whether the triple was taken
 abbrev pub is_loaded : LoadState → Triple → Bool
 is_loaded l t = list_any (same_triple t) (keys_of l.triples)
 
@@ -60,6 +63,7 @@ need limits x l =
 abbrev pub from_term : Limits → Term → ℕ → LoadState → Result LoadState Refusal
 from_term limits x n l = changed limits (link (unwrap_or (number_of l.terms x) 0) n) l
 
+-- an edge from the node n of a triple to that of a term
 abbrev pub onto_term : Limits → ℕ → Term → LoadState → Result LoadState Refusal
 onto_term limits n x l = changed limits (link n (unwrap_or (number_of l.terms x) 0)) l
 

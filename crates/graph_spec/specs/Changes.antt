@@ -5,6 +5,7 @@ use Rattle.std.specs.FinSet as set
 use Rattle.graph_spec.specs.declared.limits.Limits.{Limits}
 use Rattle.graph_spec.specs.Graphs.{Graph, has_edge, is_seen}
 
+-- the labels that were seen, with t behind them where it is new
 abbrev pub with_label : List (List ℕ) → List ℕ → List (List ℕ)
 with_label seen t = if is_seen seen t then seen else seen ++ t ∷ []
 
@@ -12,12 +13,15 @@ with_label seen t = if is_seen seen t then seen else seen ++ t ∷ []
 abbrev pub with_node : Graph → List ℕ → Graph
 with_node g t = record g { allocated = g.allocated ++ Some t ∷ []; seen = with_label g.seen t }
 
+-- the graph with an edge from u to v
 abbrev pub with_edge : Graph → ℕ → ℕ → Graph
 with_edge g u v = record g { edges = set.insert g.edges (u, v) }
 
+-- the graph with no edge from u to v
 abbrev pub without_edge : Graph → ℕ → ℕ → Graph
 without_edge g u v = record g { edges = set.remove g.edges (u, v) }
 
+-- the graph in which u is no longer live; its number stays allocated, and the edges stay as they are
 abbrev pub without_node : Graph → ℕ → Graph
 without_node g u = record g { allocated = slice_set g.allocated u None }
 

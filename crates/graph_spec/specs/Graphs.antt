@@ -14,6 +14,7 @@ edge_cmp = then_cmp (on (λ e. e.0) nat_cmp) (on (λ e. e.1) nat_cmp)
 abbrev pub Edges : Type 0
 Edges = set.FinSet edge_cmp
 
+-- the labels of nodes by their numbers, the edges, and the labels that were ever seen
 pub record Graph : Type 0 where
   -- for each number ever allocated, the label of its node, or none where the node is gone
   pub allocated : List (Option (List ℕ))
@@ -22,6 +23,7 @@ pub record Graph : Type 0 where
   -- each label that was ever seen, once, in the order in which they came
   pub seen : List (List ℕ)
 
+-- no number was allocated, and no label was seen
 abbrev pub empty_graph : Graph
 empty_graph = record { allocated = []; edges = set.empty; seen = [] }
 
@@ -29,9 +31,11 @@ empty_graph = record { allocated = []; edges = set.empty; seen = [] }
 abbrev pub label_of : Graph → ℕ → Option (List ℕ)
 label_of g n = option_and_then (λ l. l) (slice_get g.allocated n)
 
+-- whether the number is that of a live node
 abbrev pub is_live : Graph → ℕ → Bool
 is_live g n = is_some (label_of g n)
 
+-- whether an edge leads from u to v
 abbrev pub has_edge : Graph → ℕ → ℕ → Bool
 has_edge g u v = set.contains g.edges (u, v)
 

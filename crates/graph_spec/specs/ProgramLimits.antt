@@ -2,6 +2,7 @@
 use Rattle.std.proofs.Common.{lit≤}
 use Rattle.graph_spec.specs.declared.limits.Limits.{Limits}
 
+-- 2^21 numbers of nodes, 2^22 edges and 2^20 labels; texts of expressions of 4096 bytes, nested 64 deep
 abbrev pub program_limits : Limits
 program_limits = record {
   nodes = 2097152;

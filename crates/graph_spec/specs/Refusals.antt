@@ -3,6 +3,7 @@ use Rattle.std.specs.Prelude.{ℕ, List, codes}
 use Rattle.graph_spec.specs.declared.refusal.Refusal.{Refusal}
 use Rattle.graph_spec.specs.declared.refusal.Refusal.TheVariants.{NoNode, NoEdge, Limit, NoIndex}
 
+-- how a refusal is written
 abbrev pub word_of : Refusal → List ℕ
 word_of NoNode = codes "no-node"
 word_of NoEdge = codes "no-edge"

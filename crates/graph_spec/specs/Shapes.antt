@@ -2,6 +2,7 @@
 use Rattle.std.specs.Prelude.{ℕ, ◌<◌, Bool, List, length, Option, option_and_then, slice_get, IsTrue, IsSome}
 use Rattle.graph_spec.specs.Graphs.{Graph, label_of, has_edge}
 
+-- labels and edges, by the numbers of nodes
 pub record Shape : Type 0 where
   -- the nodes have numbers below it
   pub size : ℕ
@@ -10,12 +11,15 @@ pub record Shape : Type 0 where
   -- whether an edge leads from the first node to the second
   pub edge : ℕ → ℕ → Bool
 
+-- the number has a label
 abbrev pub IsNode : Shape → ℕ → Type 0
 IsNode s n = IsSome (s.label n)
 
+-- an edge leads from p to n
 abbrev pub IsParent : Shape → ℕ → ℕ → Type 0
 IsParent s p n = IsTrue (s.edge p n)
 
+-- an edge leads from n to c
 abbrev pub IsChild : Shape → ℕ → ℕ → Type 0
 IsChild s c n = IsTrue (s.edge n c)
 

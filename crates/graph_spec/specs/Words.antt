@@ -6,6 +6,7 @@ use Rattle.std.specs.List.{slice_split, list_all}
 abbrev pub is_blank : ℕ → Bool
 is_blank b = b == 32 || b == 9
 
+-- spaces and tabs alone, or nothing
 abbrev pub AreBlanks : List ℕ → Type 0
 AreBlanks bs = IsTrue (list_all is_blank bs)
 

@@ -8,9 +8,11 @@ use Rattle.change_spec.specs.Steps.{Step, node, link, unlink, drop, relabel, tou
 abbrev pub stays_at : ℕ → (ℕ → Bool) → ℕ × ℕ → Bool
 stays_at u gone e = touches u e && (not (gone e.0) && not (gone e.1))
 
+-- how many edges of the graph are at the node, with neither of their ends gone
 abbrev pub staying : Graph → ℕ → (ℕ → Bool) → ℕ
 staying g u gone = set.len (set.retain g.edges (stays_at u gone))
 
+-- 1 if it holds, else 0
 abbrev pub one_for : Bool → ℕ
 one_for b = if b then 1 else 0
 

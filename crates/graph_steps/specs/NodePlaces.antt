@@ -19,5 +19,6 @@ places_from i (unlink u v ∷ ss) = places_from (suc i) ss
 places_from i (drop u ∷ ss) = places_from (suc i) ss
 places_from i (relabel u t ∷ ss) = places_from (suc i) ss
 
+-- the places of the steps that add nodes, counted from 0
 abbrev pub node_places : List Step → List ℕ
 node_places c = places_from 0 c

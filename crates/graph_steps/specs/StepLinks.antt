@@ -61,9 +61,11 @@ is_first n (unlink u v) = nat_eq n u
 is_first n (drop u) = nat_eq n u
 is_first n (relabel u t) = nat_eq n u
 
+-- the first link where n is the first node that the step names, else the second
 abbrev pub next_of : Step → Links → ℕ → ℕ
 next_of s l n = if is_first n s then l.first else l.second
 
+-- the links of the step, of which the one for n leads to the place `next`
 abbrev pub with_next : Step → Links → ℕ → ℕ → Links
 with_next s l n next = if is_first n s then record { first = next; second = l.second } else record { first = l.first; second = next }
 
@@ -74,6 +76,7 @@ link_at (s ∷ ss) [] i n = nowhere
 link_at (s ∷ ss) (l ∷ ls) zero n = next_of s l n
 link_at (s ∷ ss) (l ∷ ls) (suc i) n = link_at ss ls i n
 
+-- the links, where the one for n of the step at the place i leads to the place `next`
 abbrev pub with_link : List Step → List Links → ℕ → ℕ → ℕ → List Links
 with_link [] ls i n next = ls
 with_link (s ∷ ss) [] i n next = []
@@ -89,18 +92,23 @@ pub record AreLinks (c : List Step) (links : List Links) : Type 0 where
 
 -- ---- the first step that names a node, the last, and the first that takes it away
 
+-- no step names the node
 abbrev pub no_ends : Ends
 no_ends = record { first = nowhere; last = nowhere; taken = nowhere }
 
+-- what is noted of the node; `no_ends` where nothing is
 abbrev pub ends_at : List (ℕ × Ends) → ℕ → Ends
 ends_at ends n = unwrap_or (lookup (nat_eq n) ends) no_ends
 
+-- the place of the first step that names the node, by what is noted
 abbrev pub first_at : List (ℕ × Ends) → ℕ → ℕ
 first_at ends n = (ends_at ends n).first
 
+-- the place of the last step that names the node, by what is noted
 abbrev pub last_at : List (ℕ × Ends) → ℕ → ℕ
 last_at ends n = (ends_at ends n).last
 
+-- the place of the first step that takes the node away, by what is noted
 abbrev pub taken_at : List (ℕ × Ends) → ℕ → ℕ
 taken_at ends n = (ends_at ends n).taken
 

@@ -12,11 +12,13 @@ use Rattle.graph_steps.specs.NamedSteps.{DropsLast}
 use Rattle.graph_steps.specs.NewChanges.{IsNew}
 use Rattle.graph_update.specs.NamedSteps.{TellsDrops}
 
+-- a graph, and the steps of a change that isn't made in it yet
 pub record Pending : Type 0 where
   -- the graph as it is
   pub before : Graph
   pub change : List Step
 
+-- both are stored, the graph first
 abbrev pub pending_code : Coded Pending
 pending_code =
     code_by (Graph × List Step) (coded× graph_code steps_code) (λ p. (p.before, p.change)) (λ p. record { before = p.0; change = p.1 }) (λ _. refl)

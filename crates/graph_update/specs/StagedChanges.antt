@@ -23,6 +23,7 @@ needed_labels (unlink u v ∷ ss) = needed_labels ss
 needed_labels (drop u ∷ ss) = needed_labels ss
 needed_labels (relabel u t ∷ ss) = needed_labels ss
 
+-- the edges that links need, in their order
 abbrev pub needed_pairs : List Step → List (ℕ × ℕ)
 needed_pairs [] = []
 needed_pairs (node t ∷ ss) = needed_pairs ss
@@ -31,6 +32,7 @@ needed_pairs (unlink u v ∷ ss) = needed_pairs ss
 needed_pairs (drop u ∷ ss) = needed_pairs ss
 needed_pairs (relabel u t ∷ ss) = needed_pairs ss
 
+-- the labels that relabelled nodes need, in the order of the steps
 abbrev pub needed_relabels : List Step → List (List ℕ)
 needed_relabels [] = []
 needed_relabels (node t ∷ ss) = needed_relabels ss

@@ -5,9 +5,11 @@ use Rattle.hash_index.specs.declared.slots.Slot.{Slot}
 use Rattle.hash_index.specs.Slots.{hashes_of, links_of}
 use Rattle.hash_index.specs.Items.{hash_at, IsNewest}
 
+-- the head of the bucket; 0 where there is no such bucket
 abbrev pub head_at : List ℕ → ℕ → ℕ
 head_at heads b = slice_index_or heads b 0
 
+-- the link of the number; 0 past the end
 abbrev pub link_at : List ℕ → ℕ → ℕ
 link_at links n = slice_index_or links n 0
 
@@ -32,6 +34,7 @@ pub record IsLinked (n : ℕ) (bucket next head : ℕ → ℕ) : Type 0 where
   -- the number just below it is of the bucket
   pub next_is : (i : ℕ) → i < n → 0 < next i → bucket (next i - 1) ≡ bucket i
 
+-- from the heads of buckets links lead through the first n numbers, each in the bucket of its hash
 abbrev pub AreChains : ℕ → List ℕ → List ℕ → List ℕ → Type 0
 AreChains n hashes links heads = IsLinked n (λ i. bucket_of heads (hash_at hashes i)) (link_at links) (head_at heads)
 

@@ -1,12 +1,14 @@
 -- Items by number, each with the hash of its key.
 use Rattle.std.specs.Prelude.{◌≡◌, ℕ, ◌+◌, ◌<◌, ◌≤◌, List, [], ◌∷◌, ◌++◌, slice_index_or, Option, None, Some, IfSome}
 
+-- for each number an item, and the hash of its key
 pub record Items (X : Type 0) : Type 0 where
   -- the hash of each item's key, in the order of the items
   pub hashes : List ℕ
   -- the items, in the order in which they came
   pub items : List X
 
+-- there is no item yet
 abbrev pub no_items : {X : Type 0} → Items X
 no_items = record { hashes = []; items = [] }
 
@@ -14,6 +16,7 @@ no_items = record { hashes = []; items = [] }
 abbrev pub with_item : {X : Type 0} → Items X → ℕ → X → Items X
 with_item xs hash item = record { hashes = xs.hashes ++ hash ∷ []; items = xs.items ++ item ∷ [] }
 
+-- the hash of the item with the number; 0 past the end
 abbrev pub hash_at : List ℕ → ℕ → ℕ
 hash_at hashes n = slice_index_or hashes n 0
 

@@ -4,6 +4,7 @@ use Rattle.hash_index.specs.Items.{Items, hash_at}
 use Rattle.key_table.specs.declared.spans.KeyRange.{KeyRange}
 use Rattle.key_table.specs.Hashes.{hash_of}
 
+-- where the key with the number lies; an empty span past the end
 abbrev pub span_at : List KeyRange → ℕ → KeyRange
 span_at spans i = slice_index_or spans i (record { from = 0; to = 0 })
 
@@ -11,6 +12,7 @@ span_at spans i = slice_index_or spans i (record { from = 0; to = 0 })
 abbrev pub key_in : List ℕ → KeyRange → List ℕ
 key_in arena s = slice_range arena s.from s.to
 
+-- the keys that lie in the spans, in their order
 abbrev pub keys_of : List ℕ → List KeyRange → List (List ℕ)
 keys_of arena spans = map (key_in arena) spans
 

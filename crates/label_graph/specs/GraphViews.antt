@@ -21,5 +21,6 @@ numbered_shape g = shape_by g.seen (length g.allocated) (label_number g) (is_lin
 abbrev pub live_count : Graph → ℕ
 live_count g = count_by is_some g.allocated
 
+-- how many edges there are
 abbrev pub edge_count : Graph → ℕ
 edge_count g = set.len g.edges

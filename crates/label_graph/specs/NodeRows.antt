@@ -12,6 +12,7 @@ abbrev pub list_of : Side → Row → Segment
 list_of Parents r = r.parents
 list_of Children r = r.children
 
+-- the row with this list on that side
 abbrev pub with_list : Side → Row → Segment → Row
 with_list Parents r s = record r { parents = s }
 with_list Children r s = record r { children = s }
@@ -42,11 +43,14 @@ pub record AreRows (cells : List ℕ) (rows : List Row) (shown : ℕ) : Type 0 w
   -- the rows behind these have no labels
   pub spare : (n : ℕ) → shown ≤ n → number_at (row_labels rows) n ≡ None
 
+-- the list that lies there, with its capacity
 abbrev pub list_in : List ℕ → Segment → NeighbourList
 list_in cells s = record { items = items_in cells s; capacity = s.reserved }
 
+-- the node of the row, with its lists as they lie among the cells
 abbrev pub node_in : List ℕ → Row → Node
 node_in cells r = record { label = r.label; children = list_in cells r.children; parents = list_in cells r.parents }
 
+-- the node of each row
 abbrev pub nodes_in : List ℕ → List Row → List Node
 nodes_in cells = map (node_in cells)

@@ -34,11 +34,13 @@ neighbour_list_code =
     code_by (List ℕ × ℕ) (coded× (coded_list coded_ℕ) coded_ℕ)
     (λ l. (l.items, l.capacity)) (λ p. record { items = p.0; capacity = p.1 }) (λ _. refl)
 
+-- a node is stored as the number of its label, its children and its parents
 abbrev pub node_code : Coded Node
 node_code =
     code_by (Option ℕ × (NeighbourList × NeighbourList)) (coded× (coded_option coded_ℕ) (coded× neighbour_list_code neighbour_list_code))
     (λ n. (n.label, (n.children, n.parents))) (λ p. record { label = p.0; children = p.1.0; parents = p.1.1 }) (λ _. refl)
 
+-- a table is stored as its nodes, and how many of them are shown
 abbrev pub node_table_code : Coded NodeTable
 node_table_code =
     code_by (List Node × ℕ) (coded× (coded_list node_code) coded_ℕ) (λ l. (l.nodes, l.shown)) (λ p. record { nodes = p.0; shown = p.1 }) (λ _. refl)
@@ -55,11 +57,13 @@ number_at numbers n = option_and_then (λ l. l) (slice_get numbers n)
 abbrev pub texts_of : List (List ℕ) → List (Option ℕ) → List (Option (List ℕ))
 texts_of texts = map (option_and_then (slice_get texts))
 
+-- the children of a node; none past the end
 abbrev pub children_of : List Node → ℕ → List ℕ
 children_of [] n = []
 children_of (x ∷ xs) zero = x.children.items
 children_of (x ∷ xs) (suc n) = children_of xs n
 
+-- the parents of a node; none past the end
 abbrev pub parents_of : List Node → ℕ → List ℕ
 parents_of [] n = []
 parents_of (x ∷ xs) zero = x.parents.items
@@ -82,6 +86,7 @@ abbrev pub pairs_from : ℕ → List Node → List (ℕ × ℕ)
 pairs_from u [] = []
 pairs_from u (x ∷ xs) = map (λ v. (u, v)) x.children.items ++ pairs_from (u + 1) xs
 
+-- the edges, by the children that each node lists
 abbrev pub edges_of : List Node → Edges
 edges_of nodes = set.from_list (pairs_from 0 nodes)
 

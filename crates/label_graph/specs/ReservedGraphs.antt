@@ -18,6 +18,7 @@ pub record Reservation : Type 0 where
   -- the labels that nodes get instead of theirs
   pub relabels : List (List ℕ)
 
+-- no labels and no pairs
 abbrev pub none_reserved : Reservation
 none_reserved = record { labels = []; pairs = []; relabels = [] }
 
@@ -54,9 +55,11 @@ without_text texts t = remove_key (bytes_eq t) texts
 abbrev pub with_reserved_label : Reservation → List ℕ → Reservation
 with_reserved_label r t = record r { labels = r.labels ++ t ∷ [] }
 
+-- one more pair is reserved, behind the others
 abbrev pub with_reserved_pair : Reservation → ℕ → ℕ → Reservation
 with_reserved_pair r u v = record r { pairs = r.pairs ++ (u, v) ∷ [] }
 
+-- one more label for a node that there is, behind the others
 abbrev pub with_reserved_relabel : Reservation → List ℕ → Reservation
 with_reserved_relabel r t = record r { relabels = r.relabels ++ t ∷ [] }
 
@@ -64,9 +67,11 @@ with_reserved_relabel r t = record r { relabels = r.relabels ++ t ∷ [] }
 abbrev pub without_reserved_pair : Reservation → ℕ → ℕ → Reservation
 without_reserved_pair r u v = record r { pairs = without_pair r.pairs u v }
 
+-- the first label that is t, for a node that there is, is taken out
 abbrev pub without_reserved_relabel : Reservation → List ℕ → Reservation
 without_reserved_relabel r t = record r { relabels = without_text r.relabels t }
 
+-- a graph, and what can be done to it with no more memory
 pub record ReservedGraph : Type 0 where
   -- nodes, labels and edges
   pub graph : Graph
@@ -98,6 +103,7 @@ reserved_code =
     (coded× (coded_list (coded_list coded_ℕ)) (coded× (coded_list (coded× coded_ℕ coded_ℕ)) (coded_list (coded_list coded_ℕ))))
     (λ r. (r.labels, (r.pairs, r.relabels))) (λ p. record { labels = p.0; pairs = p.1.0; relabels = p.1.1 }) (λ _. refl)
 
+-- both are stored, the graph first
 abbrev pub reserved_graph_code : Coded ReservedGraph
 reserved_graph_code =
     code_by (Graph × Reservation) (coded× graph_code reserved_code) (λ h. (h.graph, h.reserved)) (λ p. record { graph = p.0; reserved = p.1 }) (λ _. refl)

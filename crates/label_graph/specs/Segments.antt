@@ -17,6 +17,7 @@ pub record LiesWithin (size : ℕ) (s : Segment) : Type 0 where
 abbrev pub IsApart : Segment → Segment → Type 0
 IsApart s t = 2 ≤ s.reserved → 2 ≤ t.reserved → (s.first + s.reserved ≤ t.first) ⊎ (t.first + t.reserved ≤ s.first)
 
+-- the new list begins with the old one
 abbrev pub Begins : List ℕ → List ℕ → Type 0
 Begins old new = (more : List ℕ) × (new ≡ old ++ more)
 

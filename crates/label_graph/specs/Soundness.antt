@@ -50,6 +50,7 @@ pub record HaveLabelNumbers (table : LabelTable) (numbers : List (Option ℕ)) (
   -- the live nodes are counted
   pub node_count_is : node_count ≡ count_by is_some (texts_of table.texts numbers)
 
+-- what each graph keeps of its lists, of its labels, and of what is reserved
 pub record IsSoundGraph (table : LabelTable) (shown : ℕ) (nodes : List Node) (edge_count node_count : ℕ) (numbers : List ℕ)
     (pairs : List (ℕ × ℕ)) (relabel_numbers : List ℕ) : Type 0 where
   -- children and parents agree, each once, and are counted

@@ -47,6 +47,7 @@ pub record SpreadsOver (R : ℕ → ℕ → Type 0) (before after : List (List B
   -- marks only grow
   pub more : members before ≤ members after
 
+-- further pairs of the kind were marked in the rows of a frontier, and listed in its worklist
 abbrev pub Spreads : (ℕ → ℕ → Type 0) → Frontier → Frontier → Type 0
 Spreads R before after = SpreadsOver R before.rows.items after.rows.items before.worklist after.worklist
 

@@ -10,6 +10,7 @@ use Rattle.path_automaton.specs.declared.state.State.TheVariants.{End, Stuck, An
 abbrev pub label_in : (ℕ → Bool) → (ℕ → Option ℕ) → ℕ → Option ℕ
 label_in keeps label_at n = if keeps n then label_at n else None
 
+-- an edge leads from u to v, and the test keeps both
 abbrev pub edge_in : (ℕ → Bool) → (ℕ → ℕ → Bool) → ℕ → ℕ → Bool
 edge_in keeps edge u v = keeps u && (keeps v && edge u v)
 

@@ -31,11 +31,13 @@ ReadsLabel texts s t next =
 module _ (texts : List (List ℕ)) (at : ℕ → Option State) where
   -- The part is read from the state `from` on, and then comes the state `next`. Its states have numbers from `low` on.
   abbrev mutual
+    -- a lone sequence stands as it is; where there are more, a fork leads to the first and to the others
     pub Stands : Expr → (low from next : ℕ) → Type 0
     Stands (only s) low from next = StandsSeq s low from next
     Stands (or s e) low from next =
         (x : ℕ) × (y : ℕ) × (at from ≡ Some (Fork x y)) × (low ≤ from) × StandsSeq s low x next × Stands e low y next
 
+    -- the items stand one after another; at '//' a fork leads on, or to a state that reads any label and comes back
     pub StandsSeq : Seq → (low from next : ℕ) → Type 0
     StandsSeq (last i) low from next = StandsItem i low from next
     StandsSeq (then i child s) low from next = (k : ℕ) × StandsItem i low from k × StandsSeq s low k next
@@ -43,12 +45,14 @@ module _ (texts : List (List ℕ)) (at : ℕ → Option State) where
         (k : ℕ) × (h : ℕ) × (y : ℕ) × (at k ≡ Some (Fork h y)) × (at h ≡ Some (Any k)) × (low ≤ k) × (low ≤ h)
         × StandsItem i low from k × StandsSeq s low y next
 
+    -- the atom stands there; by its sign a fork leads past it, back to it, or both
     pub StandsItem : Item → (low from next : ℕ) → Type 0
     StandsItem (once a) low from next = StandsAtom a low from next
     StandsItem (signed a star) low from next = (x : ℕ) × (at from ≡ Some (Fork x next)) × (low ≤ from) × StandsAtom a low x from
     StandsItem (signed a plus) low from next = (k : ℕ) × (at k ≡ Some (Fork from next)) × (low ≤ k) × StandsAtom a low from k
     StandsItem (signed a opt) low from next = (x : ℕ) × (at from ≡ Some (Fork next x)) × (low ≤ from) × StandsAtom a low x next
 
+    -- the state reads the label, or any label; or the expression in parentheses stands there
     pub StandsAtom : Atom → (low from next : ℕ) → Type 0
     StandsAtom (label t) low from next = (low ≤ from) × ReadsLabel texts (at from) t next
     StandsAtom any low from next = (low ≤ from) × (at from ≡ Some (Any next))

@@ -59,6 +59,7 @@ deep_seqs s (r ∷ rs) =
     let c = first_seq (seq_of r) rs in
     omega (arith, a, b, c)
 
+-- no sequence of an expression is nested deeper than the tree of the expression has parts
 pub deep_expr : (s : Seq) (rs : List Seq) → max (deep-Seq s) (max (most (λ x. deep-Seq x) rs) 0) ≤ nodes (expr_from (seq_of s) rs)
 deep_expr s rs =
     let a = deep_seq s in

@@ -47,6 +47,7 @@ sep_inj below child p = cc
 sep_inj below below p = refl
 
 abbrev mutual
+  -- the code of a tree: which of its kind it is, and then the codes of its parts
   pub expr_code : Expr → Gv
   expr_code (only s) = gcons (gnum 0) (seq_code s)
   expr_code (or s e) = gcons (gnum 1) (gcons (seq_code s) (expr_code e))
@@ -65,6 +66,7 @@ abbrev mutual
   atom_code (group e) = gcons (gnum 2) (expr_code e)
 
 mutual
+  -- trees with one code are the same
   pub expr_inj : (x y : Expr) → expr_code x ≡ expr_code y → x ≡ y
   expr_inj (only s) (only r) p = ap only (seq_inj s r (ap tail p))
   expr_inj (only s) (or r e) p = absurd (apart 0 1 p (omega arith))
@@ -76,7 +78,8 @@ mutual
   seq_inj (last i) (then j q s) p = absurd (apart 0 1 p (omega arith))
   seq_inj (then i o r) (last j) p = absurd (apart 1 0 p (omega arith))
   seq_inj (then i o r) (then j q s) p =
-      λ k. then (item_inj i j (ap (λ g. head (tail g)) p) k) (sep_inj o q (ap (λ g. head (tail (tail g))) p) k) (seq_inj r s (ap (λ g. tail (tail (tail g))) p) k)
+      λ k. then (item_inj i j (ap (λ g. head (tail g)) p) k) (sep_inj o q (ap (λ g. head (tail (tail g))) p) k)
+      (seq_inj r s (ap (λ g. tail (tail (tail g))) p) k)
 
   item_inj : (x y : Item) → item_code x ≡ item_code y → x ≡ y
   item_inj (once a) (once b) p = ap once (atom_inj a b (ap tail p))
@@ -95,5 +98,6 @@ mutual
   atom_inj (group d) any p = absurd (apart 2 1 p (omega arith))
   atom_inj (group d) (group e) p = ap group (expr_inj d e (ap tail p))
 
+-- expressions are stored by the codes of their trees
 abbrev pub coded_tree : Coded Expr
 coded_tree = record { code = expr_code; inj = expr_inj }

@@ -6,6 +6,7 @@ use Rattle.path_query.specs.declared.depth.Nesting.{Nesting}
 abbrev pub opens : ℕ → Bool
 opens b = b == 40 || b == 91
 
+-- ')' or ']'
 abbrev pub closes : ℕ → Bool
 closes b = b == 41 || b == 93
 
@@ -20,5 +21,6 @@ abbrev pub depth_from : Nesting → List ℕ → ℕ
 depth_from n [] = n.opened - n.closed
 depth_from n (b ∷ bs) = max (n.opened - n.closed) (depth_from (next n b) bs)
 
+-- the most brackets that are open at one place of the text
 abbrev pub depth : List ℕ → ℕ
 depth text = depth_from (record { opened = 0; closed = 0; quoted = false }) text

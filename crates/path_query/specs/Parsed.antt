@@ -6,6 +6,7 @@ use Rattle.path_spec.specs.Spelling as spelling
 use Rattle.path_query.specs.Labels.{SpellsLabel}
 use Rattle.path_query.specs.Depths.{depth}
 
+-- the text spells the expression, with each label as a name or an IRIREF
 abbrev pub Spells : List ℕ → Expr → Type 0
 Spells text e = spelling.Spells SpellsLabel text e
 

@@ -2,6 +2,7 @@
 use Rattle.std.specs.Prelude.{ℕ, List, [], ◌∷◌}
 use Rattle.path_spec.specs.Trees.{Sign, Sep, child, below, Expr, only, or, Seq, last, then, Item, once, signed, Atom, label, any, group}
 
+-- what the text of an expression is made of, but for its blanks
 pub data Token : Type 0 where
   -- a label, by its text
   lab : List ℕ → Token
@@ -19,29 +20,35 @@ pub data Token : Type 0 where
   -- '*', '+' or '?'
   sign : Sign → Token
 
+-- '/' before a child, '//' before a node below
 abbrev pub sep_token : Sep → Token
 sep_token child = slash
 sep_token below = slashes
 
 -- the tokens of a part, before those that follow
 abbrev mutual
+  -- the alternatives, with '|' between them
   pub onto : Expr → List Token → List Token
   onto (only s) r = seq_onto s r
   onto (or s e) r = seq_onto s (bar ∷ onto e r)
 
+  -- the items, with their separators between them
   pub seq_onto : Seq → List Token → List Token
   seq_onto (last i) r = item_onto i r
   seq_onto (then i p s) r = item_onto i (sep_token p ∷ seq_onto s r)
 
+  -- the atom, and its sign behind it
   pub item_onto : Item → List Token → List Token
   item_onto (once a) r = atom_onto a r
   item_onto (signed a g) r = atom_onto a (sign g ∷ r)
 
+  -- the label, '_', or the expression in parentheses
   pub atom_onto : Atom → List Token → List Token
   atom_onto (label t) r = lab t ∷ r
   atom_onto any r = underscore ∷ r
   atom_onto (group e) r = opening ∷ onto e (closing ∷ r)
 
+-- the tokens of the whole expression
 abbrev pub tokens : Expr → List Token
 tokens e = onto e []
 

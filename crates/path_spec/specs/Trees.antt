@@ -28,10 +28,12 @@ mutual
     last : Item → Seq
     then : Item → Sep → Seq → Seq
 
+  -- an atom, once or as often as the sign says
   pub data Item : Type 0 where
     once : Atom → Item
     signed : Atom → Sign → Item
 
+  -- one label, or an expression
   pub data Atom : Type 0 where
     -- this label
     label : List ℕ → Atom

@@ -10,6 +10,7 @@ trimmed_item (signed a star) = signed a opt
 trimmed_item (signed a plus) = once a
 trimmed_item (signed a opt) = signed a opt
 
+-- the sequence with its first item trimmed
 abbrev pub first_trimmed : Seq → Seq
 first_trimmed (last i) = last (trimmed_item i)
 first_trimmed (then i p s) = then (trimmed_item i) p s

@@ -2,6 +2,7 @@
 use Rattle.std.specs.Prelude.{◌≡◌, ℕ, ◌+◌, ◌<◌, ◌≤◌, Bool, true, false, List, [], ◌∷◌, map, nat_eq, if◌then◌else◌}
 use Rattle.graph_spec.specs.Members.{has}
 
+-- the size, and the members below it
 pub record BitSet : Type 0 where
   -- the numbers are below it
   pub size : ℕ

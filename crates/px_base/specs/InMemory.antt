@@ -3,6 +3,7 @@ use Rattle.std.specs.Prelude.{◌≡◌, ℕ, ◌≤◌, List, drop, length, Opt
 use Rattle.std.specs.Global.{Global}
 use Rattle.px_base.specs.Files.{File}
 
+-- what a shelf has in memory, and which of its calls fail
 pub record ShelfInMemory : Type 0 where
   -- the files, each by its name
   pub files : List File
@@ -15,6 +16,7 @@ pub record ShelfInMemory : Type 0 where
   pub calls : ℕ
   pub faults : ℕ
 
+-- what was written to a sink in memory, for how much it has room, and which of its calls fail
 pub record SinkInMemory : Type 0 where
   -- all that was written
   pub written : List ℕ

@@ -3,6 +3,7 @@ use Rattle.std.specs.Prelude.{◌≡◌, ℕ, ◌+◌, ◌^◌, ◌<◌, ◌≤�
 use Rattle.std.specs.Io.KnownBytes.{prepend_known}
 use Rattle.graph_spec.specs.Lines.{Line, cut}
 
+-- the text that was read ahead, the line, the counts, the limits, and whether a call failed
 pub record ReaderState : Type 0 where
   -- the bytes that were read and belong to no line yet
   pub ahead : List ℕ

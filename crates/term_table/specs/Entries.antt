@@ -7,9 +7,11 @@ use Rattle.term_table.specs.declared.entries.TermRange.{TermRange}
 use Rattle.term_table.specs.declared.parts.Sort.TheVariants.{Iri}
 use Rattle.term_table.specs.TermParts.{Parts, parts_of, term_of, hash_of}
 
+-- an empty IRI with the number 0
 abbrev pub no_entry : Entry
 no_entry = record { span = record { from = 0; text_end = 0; datatype_end = 0; to = 0 }; sort = Iri; number = 0 }
 
+-- the entry at the place; `no_entry` past the end
 abbrev pub entry_at : List Entry → ℕ → Entry
 entry_at entries i = slice_index_or entries i no_entry
 
@@ -22,12 +24,15 @@ pub record AreWithin (bound : ℕ) (s : TermRange) : Type 0 where
   -- and end within the bound
   pub end : s.to ≤ bound
 
+-- the text that lies there: an IRI, a blank node label or a string
 abbrev pub text_in : List ℕ → TermRange → List ℕ
 text_in arena s = slice_range arena s.from s.text_end
 
+-- the datatype that lies behind the text
 abbrev pub datatype_in : List ℕ → TermRange → List ℕ
 datatype_in arena s = slice_range arena s.text_end s.datatype_end
 
+-- the tag that lies behind the datatype
 abbrev pub tag_in : List ℕ → TermRange → List ℕ
 tag_in arena s = slice_range arena s.datatype_end s.to
 
@@ -38,6 +43,7 @@ pub record HasTexts (arena : List ℕ) (s : TermRange) (p : Parts) : Type 0 wher
   pub datatype : datatype_in arena s ≡ p.datatype
   pub tag : tag_in arena s ≡ p.tag
 
+-- whether the texts that lie there are those of the parts
 abbrev pub has_texts : List ℕ → TermRange → Parts → Bool
 has_texts arena s p = bytes_eq (text_in arena s) p.text && (bytes_eq (datatype_in arena s) p.datatype && bytes_eq (tag_in arena s) p.tag)
 
@@ -45,6 +51,7 @@ has_texts arena s p = bytes_eq (text_in arena s) p.text && (bytes_eq (datatype_i
 abbrev pub parts_in : List ℕ → Entry → Parts
 parts_in arena e = record { sort = e.sort; text = text_in arena e.span; datatype = datatype_in arena e.span; tag = tag_in arena e.span }
 
+-- the term of each entry, with its number
 abbrev pub terms_of : List ℕ → List Entry → List (Term × ℕ)
 terms_of arena entries = map (λ e. (term_of (parts_in arena e), e.number)) entries
 

@@ -4,6 +4,7 @@ use Rattle.std.specs.Map.{keys_of, lookup}
 use Rattle.triples_read.specs.declared.term.Term.{Term}
 use Rattle.triples_read.specs.declared.term.Term.TheVariants.{Iri, Blank, Literal}
 
+-- both have no tag, or the same
 abbrev pub same_tag : Option (List ℕ) → Option (List ℕ) → Bool
 same_tag None None = true
 same_tag (Some s) (Some t) = bytes_eq s t

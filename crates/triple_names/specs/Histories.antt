@@ -9,6 +9,7 @@ use Rattle.triple_names.specs.Names.{Names, AreSameNames}
 use Rattle.triple_names.specs.TripleChanges.{insert_steps, placed_in, noted, delete_change}
 use Rattle.triple_names.specs.Represented.{with_triple, without_triple}
 
+-- a triple is inserted or deleted
 pub data Edit : Type 0 where
   insert : Triple → Edit
   delete : Triple → Edit
@@ -21,6 +22,7 @@ Inserts limits t g n h k = IsSpelled t × (apply (insert_steps n g t) g limits �
 abbrev pub Deletes : Limits → Triple → Graph → Names → Graph → Names → Type 0
 Deletes limits t g n h k = (c : List Step) × (delete_change n g t ≡ Some c) × (apply c g limits ≡ Ok h) × AreSameNames k n
 
+-- the edit is accepted, and leads from the graph g with the names n to h with k
 abbrev pub Edits : Limits → Edit → Graph → Names → Graph → Names → Type 0
 Edits limits (insert t) g n h k = Inserts limits t g n h k
 Edits limits (delete t) g n h k = Deletes limits t g n h k
@@ -35,6 +37,7 @@ abbrev pub edited : Edit → List Triple → List Triple
 edited (insert t) s = with_triple s t
 edited (delete t) s = without_triple s t
 
+-- the triples that are present after all edits, one after the other
 abbrev pub edited_all : List Edit → List Triple → List Triple
 edited_all [] s = s
 edited_all (e ∷ es) s = edited_all es (edited e s)

@@ -21,12 +21,14 @@ term_label (Literal text datatype tag) = codes "literal"
 abbrev pub predicate_label : List ℕ → List ℕ
 predicate_label iri = iri_spelling iri
 
+-- a term, or a triple
 pub data Item : Type 0 where
   -- a term
   of_term : Term → Item
   -- a triple
   of_triple : Triple → Item
 
+-- both are terms or both triples, and they are equal
 abbrev pub same_item : Item → Item → Bool
 same_item (of_term x) (of_term y) = same_term x y
 same_item (of_triple t) (of_triple u) = same_triple t u

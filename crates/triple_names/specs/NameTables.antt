@@ -20,9 +20,11 @@ abbrev pub later_at : List (ℕ × Option ℕ) → Option ℕ → Option (Option
 later_at later None = None
 later_at later (Some place) = lookup (nat_eq place) later
 
+-- the number of a term: what was noted of its place, else that of the table
 abbrev pub term_number : List (Term × ℕ) → List (ℕ × Option ℕ) → Term → Option ℕ
 term_number terms later x = later_or (later_at later (place_in terms x)) (number_of terms x)
 
+-- the number of a triple: what was noted of its key, else that of its entry
 abbrev pub number_by_key : List (Term × ℕ) → List (List ℕ) → List (Key × ℕ) → List (Key × Option ℕ) → Triple → Option ℕ
 number_by_key terms predicates entries later t = later_or (lookup (is_key_of terms predicates t) later) (lookup (is_key_of terms predicates t) entries)
 

@@ -14,6 +14,7 @@ pub record Names : Type 0 where
   -- the number of each triple
   pub triples : List (Triple × ℕ)
 
+-- no term and no triple was ever given a number
 abbrev pub no_names : Names
 no_names = record { terms = []; triples = [] }
 
@@ -21,6 +22,7 @@ no_names = record { terms = []; triples = [] }
 abbrev pub triple_number : List (Triple × ℕ) → Triple → Option ℕ
 triple_number triples t = lookup (same_triple t) triples
 
+-- the number of a term, or of a triple; none where it was never given one
 abbrev pub number_in : Names → Item → Option ℕ
 number_in n (of_term x) = number_of n.terms x
 number_in n (of_triple t) = triple_number n.triples t

@@ -10,9 +10,11 @@ use Rattle.triple_names.specs.declared.triple_table.Key.{Key}
 use Rattle.triple_names.specs.Items.{predicate_label}
 use Rattle.term_table.specs.Terms.{same_term, place_in}
 
+-- the term at the place; an empty IRI past the end
 abbrev pub term_at : List (Term × ℕ) → ℕ → Term
 term_at terms place = unwrap_or (slice_get (keys_of terms) place) (Iri [])
 
+-- the predicate at the place; an empty one past the end
 abbrev pub predicate_at : List (List ℕ) → ℕ → List ℕ
 predicate_at predicates place = unwrap_or (slice_get predicates place) []
 
@@ -24,6 +26,7 @@ with_predicate predicates iri = if list_any (bytes_eq iri) predicates then predi
 abbrev pub AddLabels : List (List ℕ × List Step) → Type 0
 AddLabels entries = AllByRecursion (λ e. e.1 ≡ node (predicate_label e.0) ∷ []) entries
 
+-- the three places are the same
 abbrev pub same_key : Key → Key → Bool
 same_key k l = nat_eq k.subject l.subject && (nat_eq k.predicate l.predicate && nat_eq k.object l.object)
 
@@ -50,6 +53,7 @@ pub record IsKeyIn (terms : List (Term × ℕ)) (predicates : List (List ℕ)) (
   pub predicate : position (bytes_eq (predicate_at predicates k.predicate)) predicates ≡ Some k.predicate
   pub object : place_in terms (term_at terms k.object) ≡ Some k.object
 
+-- what stands at the places of each entry's key stands nowhere before them
 abbrev pub AreKeysIn : {V : Type 0} → List (Term × ℕ) → List (List ℕ) → List (Key × V) → Type 0
 AreKeysIn terms predicates entries = AllByRecursion (λ e. IsKeyIn terms predicates e.0) entries
 

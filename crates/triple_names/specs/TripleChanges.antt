@@ -78,5 +78,6 @@ abbrev pub deletion : Names → Graph → Triple → Option ℕ → Option (List
 deletion n g t None = None
 deletion n g t (Some triple) = Some (delete_steps n g t triple)
 
+-- the steps that delete a triple, and none where it has no live node
 abbrev pub delete_change : Names → Graph → Triple → Option (List Step)
 delete_change n g t = deletion n g t (node_there n g (of_triple t))

@@ -3,6 +3,7 @@ use Rattle.std.specs.Prelude.{◌≡◌, ℕ, List, ◌∷◌, ◌++◌, Bool, �
 use Rattle.std.proofs.Math.Utf8.{encodes}
 use Rattle.triples_read.specs.Terminals.{Many, One}
 
+-- s spells the character c: as it is, where c is of the class, or by an escape
 abbrev pub PieceOf : (ℕ → Bool) → (List ℕ → ℕ → Type 0) → List ℕ → ℕ → Type 0
 PieceOf class Esc s c = One class s c ⊎ Esc s c
 

@@ -5,15 +5,18 @@ use Rattle.std.proofs.Math.Utf8.{scalar}
 use Rattle.triples_read.specs.Characters.{is_hex, pn_chars, is_blank, is_letter, is_letter_or_digit}
 use Rattle.triples_read.specs.Terminals.{escape_of}
 
+-- the number that k hexadecimal digits at the front write behind those of n; none where they aren't all there
 abbrev pub hex_at : ℕ → ℕ → List ℕ → Option ℕ
 hex_at zero n bytes = Some n
 hex_at (suc k) n [] = None
 hex_at (suc k) n (b ∷ bs) = if is_hex b then hex_at k (16 * n + digit_value b) bs else None
 
+-- the number, where it is a Unicode scalar value
 abbrev pub scalar_of : Option ℕ → Option ℕ
 scalar_of None = None
 scalar_of (Some n) = if scalar n then Some n else None
 
+-- the character, with the number n of bytes that it took
 abbrev pub with_len : ℕ → Option ℕ → Option (ℕ × ℕ)
 with_len n None = None
 with_len n (Some c) = Some (c, n)
@@ -60,6 +63,7 @@ abbrev pub is_over : List ℕ → Bool
 is_over [] = true
 is_over (b ∷ bs) = b == 35
 
+-- there is a first byte, and it is c
 abbrev pub starts_with : ℕ → List ℕ → Bool
 starts_with c [] = false
 starts_with c (b ∷ bs) = b == c

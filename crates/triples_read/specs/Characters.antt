@@ -4,6 +4,7 @@ use Rattle.std.specs.Prelude.{ℕ, Bool, ◌==◌, ◌&&◌, ◌||◌, nat_le, n
 use Rattle.std.specs.Char.{digit_value}
 use Rattle.std.proofs.Common.{not}
 
+-- from low to high, both of them included
 abbrev pub from_to : ℕ → ℕ → ℕ → Bool
 from_to low high c = nat_le low c && nat_le c high
 

@@ -8,9 +8,11 @@ use Rattle.triples_read.specs.declared.term.Term.{Term}
 use Rattle.triples_read.specs.declared.term.Term.TheVariants.{Iri, Blank, Literal}
 use Rattle.triples_read.specs.declared.term.Triple.{Triple}
 
+-- xsd:string, the datatype of a literal that names none and has no tag
 abbrev pub xsd_string : List ℕ
 xsd_string = codes "http://www.w3.org/2001/XMLSchema#string"
 
+-- rdf:langString, the datatype of a literal with a tag
 abbrev pub lang_string : List ℕ
 lang_string = codes "http://www.w3.org/1999/02/22-rdf-syntax-ns#langString"
 

@@ -10,13 +10,16 @@ use Rattle.triples_read.specs.Canonical.{iri_char, string_char}
 use Rattle.triples_read.specs.declared.quoted.Quote.{Quote}
 use Rattle.triples_read.specs.declared.quoted.Quote.TheVariants.{Angle, Double}
 
+-- ECHAR | UCHAR
 abbrev pub StringEscape : List ℕ → ℕ → Type 0
 StringEscape s c = ECHAR s c ⊎ UCHAR s c
 
+-- '<' before an IRI, '"' before a string
 abbrev pub opening : Quote → ℕ
 opening Angle = 60
 opening Double = 34
 
+-- '>' behind an IRI, '"' behind a string
 abbrev pub closing : Quote → ℕ
 closing Angle = 62
 closing Double = 34
@@ -26,14 +29,17 @@ abbrev pub inner : Quote → ℕ → Bool
 inner Angle = is_iri_char
 inner Double = is_string_char
 
+-- how characters are escaped between these quotes
 abbrev pub Escape : Quote → List ℕ → ℕ → Type 0
 Escape Angle = UCHAR
 Escape Double = StringEscape
 
+-- behind the backslash between these quotes: the character, and how many bytes it took with the backslash
 abbrev pub escape_at : Quote → List ℕ → Option (ℕ × ℕ)
 escape_at Angle = uchar_at
 escape_at Double = string_escape_at
 
+-- a character that stands for itself between these quotes, or an escape
 abbrev pub PieceIn : Quote → List ℕ → ℕ → Type 0
 PieceIn q = PieceOf (inner q) (Escape q)
 

@@ -37,6 +37,7 @@ escape_of e = if e == 116 then Some 9 else if e == 98 then Some 8 else if e == 1
 abbrev pub ECHAR : List ℕ → ℕ → Type 0
 ECHAR s c = (e : ℕ) × (s ≡ 92 ∷ e ∷ []) × (escape_of e ≡ Some c)
 
+-- [^#x00-#x20<>"{}|^`\] | UCHAR
 abbrev pub IriPiece : List ℕ → ℕ → Type 0
 IriPiece s c = One is_iri_char s c ⊎ UCHAR s c
 
@@ -44,6 +45,7 @@ IriPiece s c = One is_iri_char s c ⊎ UCHAR s c
 abbrev pub IRIREF : List ℕ → List ℕ → Type 0
 IRIREF s v = (body : List ℕ) × (s ≡ 60 ∷ (body ++ 62 ∷ [])) × Many IriPiece body v
 
+-- [^#x22#x5C#xA#xD] | ECHAR | UCHAR
 abbrev pub StringPiece : List ℕ → ℕ → Type 0
 StringPiece s c = One is_string_char s c ⊎ (ECHAR s c ⊎ UCHAR s c)
 

@@ -17,6 +17,7 @@ use Rattle.state_sets.specs.StateSets.{ForkedTo, Behind}
 use Rattle.walk_proof.specs.declared.marks.Pair.{Pair}
 use Rattle.walk_proof.specs.Marking.{IsMarked, Among}
 
+-- the pairs of a layer; none past the last
 abbrev pub layer_at : List (List Pair) → ℕ → List Pair
 layer_at layers i = slice_index_or layers i []
 
@@ -110,21 +111,27 @@ IsFirst layers s c = (i : ℕ) → i + 1 < length layers → Among (layer_at lay
 abbrev pub leads_through : {A : Type 0} → Digraph A → A → ℕ → ℕ → Bool
 leads_through G g c x = leads (G.span g) (G.label_at g) (G.edge g) c x
 
+-- the state s at the place c leads to a listed pair by a label
 abbrev pub Into : {A : Type 0} → Digraph A → A → List State → List Pair → ℕ → ℕ → Type 0
 Into G g states last s c = IntoBy (state_at states) (G.span g) (G.label_at g) (G.edge g) last s c
 
+-- s is this state, reads the label of x and goes on to k, and its place c leads to x
 abbrev pub ReadsOne : {A : Type 0} → Digraph A → A → List State → ℕ → ℕ → ℕ → ℕ → ℕ → Type 0
 ReadsOne G g states source k x s c = ReadsOneBy (state_at states) (G.span g) (G.label_at g) (G.edge g) source k x s c
 
+-- s is one of the states, reads the label of x and goes on to k, and its place c leads to x
 abbrev pub ReadsFrom : {A : Type 0} → Digraph A → A → List State → List ℕ → ℕ → ℕ → ℕ → ℕ → Type 0
 ReadsFrom G g states sources k x s c = ReadsFromBy (state_at states) (G.span g) (G.label_at g) (G.edge g) sources k x s c
 
+-- each layer has the pairs from which v is reached by as many labels, and by no fewer; and the rows mark those of the layers
 abbrev pub IsLayered : {A : Type 0} → Digraph A → A → List State → ℕ → List (List Pair) → List BitSet → Type 0
 IsLayered G g states v layers rows = IsLayeredBy (state_at states) (G.span g) (G.label_at g) (G.edge g) v layers rows
 
+-- c comes next to the place, and one of the states leads by its label to a state that makes one of the pairs there
 abbrev pub IsCandidate : {A : Type 0} → Digraph A → A → List State → (ℕ → ℕ → Type 0) → List ℕ → ℕ → ℕ → Type 0
 IsCandidate G g program Pairs states place c = IsCandidateBy (state_at program) (G.span g) (G.label_at g) (G.edge g) Pairs states place c
 
+-- the nodes are read from the start to v, and come before each other list that is
 abbrev pub IsLeastWay : {A : Type 0} → Digraph A → A → List State → ℕ → ℕ → List ℕ → Type 0
 IsLeastWay G g states start v nodes = IsLeastWayBy (state_at states) (G.span g) (G.label_at g) (G.edge g) v start nodes
 
@@ -132,6 +139,7 @@ IsLeastWay G g states start v nodes = IsLeastWayBy (state_at states) (G.span g) 
 abbrev pub LeadsAt : {A : Type 0} → Digraph A → A → ℕ → ℕ → ℕ → ℕ → Type 0
 LeadsAt G g state node s c = (s ≡ state) × IsTrue (leads_through G g c node)
 
+-- k is a state behind the label of c, from one of these states
 abbrev pub BehindIn : {A : Type 0} → Digraph A → A → List State → List ℕ → ℕ → ℕ → Type 0
 BehindIn G g program states c k = Behind (state_at program) (G.label_at g) states c k
 
@@ -143,6 +151,7 @@ IsSource G g program states node next s = IsTrue (has states s) × Takes (G.labe
 abbrev pub IsFirstNode : {A : Type 0} → Digraph A → A → List State → (ℕ → ℕ → Type 0) → List ℕ → ℕ → Type 0
 IsFirstNode G g program Pairs states c = IsSome (G.label_at g c) × IsPassing (state_at program) (G.label_at g) Pairs states c
 
+-- the least candidate next to the place, or none where there is none
 abbrev pub IsLeastNext : {A : Type 0} → Digraph A → A → List State → (ℕ → ℕ → Type 0) → List ℕ → ℕ → Option ℕ → Type 0
 IsLeastNext G g program Pairs states place found = IsLeastOf (λ c. IsCandidate G g program Pairs states place c) found
 

@@ -33,5 +33,6 @@ abbrev pub word_matches : Expr → Option Word → Bool
 word_matches e None = false
 word_matches e (Some w) = matches e w
 
+-- each node is a child of the one before, v is the last, and their word matches
 abbrev pub shows : Shape → Expr → ℕ → List ℕ → Bool
 shows s e v nodes = are_linked s nodes && (end_in nodes v && word_matches e (word_of s nodes))
