@@ -15,7 +15,7 @@ pub record SavedView : Type 0 where
 pub record SavedFile : Type 0 where
   -- the graph of the file
   pub graph : Graph
-  -- the highest level of the A(k)-family
+  -- the highest level of the families
   pub k : ℕ
   -- the partitions, in the order of the file
   pub views : List SavedView
