@@ -5,6 +5,7 @@ use Rattle.graph_spec.specs.Members.{has, Lists}
 use Rattle.graph_spec.specs.Shapes.{Shape}
 use Rattle.bisim_spec.specs.Reach.{within_distance}
 
+-- the nodes that were found, by their distance
 pub record Searched : Type 0 where
   -- the nodes, in the order of their distance
   pub nodes : List ℕ

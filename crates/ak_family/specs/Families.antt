@@ -26,6 +26,7 @@ level_at levels i = slice_index_or levels i no_level
 abbrev pub blocks_at : List KeyedQuotient → ℕ → List (Option ℕ)
 blocks_at levels i = (level_at levels i).quotient.blocks.block_of
 
+-- the quotient of each level
 abbrev pub quotients_of : List KeyedQuotient → List Quotient
 quotients_of levels = map (λ l. l.quotient) levels
 

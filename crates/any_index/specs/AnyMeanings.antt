@@ -7,6 +7,7 @@ use Rattle.fb_index.specs.FbMeanings as fb
 use Rattle.any_index.specs.declared.any.AnyIndex.{AnyIndex}
 use Rattle.any_index.specs.declared.any.AnyIndex.TheVariants.{A, One, Fb, B}
 
+-- what the index means, by its kind
 abbrev pub meaning_of : AnyIndex → Meaning
 meaning_of (A index) = family.meaning_of Parents index.kept
 meaning_of (One index) = one.meaning_of index.kept

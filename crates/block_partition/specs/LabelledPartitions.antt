@@ -10,6 +10,7 @@ pub record ReservedNumbers : Type 0 where
   -- how many blocks more fit
   pub blocks : ℕ
 
+-- a partition of nodes into blocks, with a label for each block
 pub record Partition : Type 0 where
   -- for each number the block of its node, or none where it has none
   pub block_of : List (Option ℕ)
@@ -17,6 +18,7 @@ pub record Partition : Type 0 where
   pub labels : List (Option ℕ)
   pub reserved : ReservedNumbers
 
+-- the number is that of a block: it has a label
 abbrev pub IsBlock : Partition → ℕ → Type 0
 IsBlock p b = IsSome (at p.labels b)
 
@@ -24,9 +26,11 @@ IsBlock p b = IsSome (at p.labels b)
 abbrev pub is_member : Partition → ℕ → ℕ → Bool
 is_member p b n = is_this b (at p.block_of n)
 
+-- how many blocks there are
 abbrev pub block_count : Partition → ℕ
 block_count p = count_by is_some p.labels
 
+-- how many members a block has
 abbrev pub member_count : Partition → ℕ → ℕ
 member_count p b = count_by (is_this b) p.block_of
 
@@ -45,9 +49,11 @@ put [] (suc n) v = None ∷ put [] n v
 put (x ∷ xs) zero v = Some v ∷ xs
 put (x ∷ xs) (suc n) v = x ∷ put xs n v
 
+-- no node and no block, and no capacity reserved
 abbrev pub no_blocks : Partition
 no_blocks = record { block_of = []; labels = []; reserved = record { nodes = 0; blocks = 0 } }
 
+-- the same blocks and labels, with capacity reserved for so many more numbers and blocks
 abbrev pub with_reserved : Partition → ℕ → ℕ → Partition
 with_reserved p nodes blocks = record { block_of = p.block_of; labels = p.labels; reserved = record { nodes = nodes; blocks = blocks } }
 

@@ -42,6 +42,7 @@ pub record AreTouched (g : Graph) (splitter parents children touched : List ℕ)
   -- those with one or the other
   pub all : (n : ℕ) → has touched n ≡ (has parents n || has children n)
 
+-- how a key says yes or no: 1 or 0
 abbrev pub bit_of : Bool → ℕ
 bit_of true = 1
 bit_of false = 0

@@ -48,7 +48,7 @@ impl Tables {
 }
 
 /// Parts the active nodes from one another by the blocks of their neighbours on a side, and from the other members of their
-/// block. It answers which nodes went to another block. Where memory runs out, the partition stays. The largest part of a block
+/// block. Returns the nodes that went to another block. Where memory runs out, the partition stays. The largest part of a block
 /// keeps its number, where all members were active.
 ///
 /// Expected O(w + m log d) for w active nodes, with m neighbours, at most d each, whose blocks are sorted, and O(b) more

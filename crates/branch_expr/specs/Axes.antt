@@ -3,6 +3,7 @@ use Rattle.branch_spec.specs.Trees as tree
 use Rattle.branch_expr.specs.declared.axis.Axis.{Axis}
 use Rattle.branch_expr.specs.declared.axis.Axis.TheVariants.{Child, Below, Parent, Above}
 
+-- the axis that the code's axis stands for
 abbrev pub axis_of : Axis → tree.Axis
 axis_of Child = tree.child
 axis_of Below = tree.below

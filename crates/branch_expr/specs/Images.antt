@@ -2,6 +2,7 @@
 use Rattle.std.specs.Prelude.{ℕ, ◌↔◌, ◌⊎◌, Bool, List, IsTrue}
 use Rattle.graph_spec.specs.Members.{has}
 
+-- the number is in the set
 abbrev pub IsMember : List ℕ → ℕ → Type 0
 IsMember set v = IsTrue (has set v)
 

@@ -67,6 +67,7 @@ deep_ands a (b ∷ bs) =
     let z = first_and (and_of b) bs in
     omega (arith, x, y, z)
 
+-- alternatives nest no deeper than their tree has parts
 pub deep_or : (a : And) (bs : List And) → max (deep-And a) (max (most (λ x. deep-And x) bs) 0) ≤ nodes (or_from (and_of a) bs)
 deep_or a bs =
     let x = deep_and a in

@@ -48,6 +48,7 @@ abbrev test_code : Test → Gv
 test_code (label x0) = gcons (gnum 0) (coded_text.code x0)
 test_code any = gcons (gnum 1) gnil
 
+-- tests of one code are the same
 pub test_inj : (x y : Test) → test_code x ≡ test_code y → x ≡ y
 test_inj (label x0) (label y0) p = λ i. label (coded_text.inj x0 y0 (ap (λ g. tail g) p) i)
 test_inj (label x0) any p = absurd (apart 0 1 p (omega arith))
@@ -55,6 +56,7 @@ test_inj any (label y0) p = absurd (apart 1 0 p (omega arith))
 test_inj any any p = refl
 
 abbrev mutual
+  -- the code of a part of a tree: the number of its constructor, and the codes of its arguments
   pub step_code : Step → Gv
   step_code (step x0 x1) = gcons (gnum 0) (gcons (test_code x0) (preds_code x1))
 
@@ -81,6 +83,7 @@ abbrev mutual
   chain_code (go x0 x1 x2) = gcons (gnum 1) (gcons (axis_code x0) (gcons (step_code x1) (chain_code x2)))
 
 mutual
+  -- parts of one code are the same
   pub step_inj : (x y : Step) → step_code x ≡ step_code y → x ≡ y
   step_inj (step x0 x1) (step y0 y1) p = λ i. step (test_inj x0 y0 (ap (λ g. head (tail g)) p) i) (preds_inj x1 y1 (ap (λ g. tail (tail g)) p) i)
 
@@ -133,11 +136,14 @@ mutual
 abbrev branch_code : Branch → Gv
 branch_code (branch x0 x1) = gcons (step_code x0) (chain_code x1)
 
+-- queries of one code are the same
 pub branch_inj : (x y : Branch) → branch_code x ≡ branch_code y → x ≡ y
 branch_inj (branch x0 x1) (branch y0 y1) p = λ i. branch (step_inj x0 y0 (ap (λ g. head g) p) i) (chain_inj x1 y1 (ap (λ g. tail g) p) i)
 
+-- alternatives have codes
 abbrev pub coded_or : Coded Or
 coded_or = record { code = or_code; inj = or_inj }
 
+-- branching queries have codes
 abbrev pub coded_branch : Coded Branch
 coded_branch = record { code = branch_code; inj = branch_inj }

@@ -11,6 +11,7 @@ use Rattle.branch_spec.specs.Relaxed.{relax}
 use Rattle.branch_query.specs.declared.queries.Query.{Query as Asked}
 use Rattle.branch_query.specs.declared.queries.Query.TheVariants as asked
 
+-- a path expression or a branching query
 pub data Query : Type 0 where
   -- a path expression
   path : Expr → Query

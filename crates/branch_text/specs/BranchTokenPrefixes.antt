@@ -41,6 +41,7 @@ word_token w =
 abbrev pub word_prefix : List ℕ → Option (Token × List ℕ)
 word_prefix text = option_map (λ t. (t, drop (prefix_len is_name_byte text) text)) (word_token (take (prefix_len is_name_byte text) text))
 
+-- the first if there is one, and else the second
 abbrev pub or_else : Option (Token × List ℕ) → Option (Token × List ℕ) → Option (Token × List ℕ)
 or_else None o = o
 or_else (Some p) o = Some p

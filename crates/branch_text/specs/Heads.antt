@@ -3,6 +3,7 @@ use Rattle.std.specs.Prelude.{◌≡◌, List, ◌∷◌}
 use Rattle.branch_spec.specs.Trees as tree
 use Rattle.branch_spec.specs.Tokens.{Token, right, opening, closing, test_onto, or_onto, step_onto, chain_onto, and_onto, cond_onto, EndsStep, EndsChain, EndsAnd, EndsOr}
 
+-- no test stands at the front; those that follow say so of other parts, named above each
 abbrev pub HasNoTest : List Token → Type 0
 HasNoTest ts = (t : tree.Test) (r : List Token) → ts ≡ test_onto t r → ⊥
 
@@ -14,6 +15,7 @@ HasNoPred ts = (o : tree.Or) (r : List Token) → ts ≡ or_onto o (right ∷ r)
 abbrev pub HasNoGroup : List Token → Type 0
 HasNoGroup ts = (o : tree.Or) (r : List Token) → ts ≡ opening ∷ or_onto o (closing ∷ r) → ⊥
 
+-- a step, before what may follow one
 abbrev pub HasNoStep : List Token → Type 0
 HasNoStep ts = (s : tree.Step) (r : List Token) → EndsStep r → ts ≡ step_onto s r → ⊥
 
@@ -33,9 +35,11 @@ HasNoUnit ts = (c : tree.Cond) (r : List Token) → ts ≡ cond_onto c r → ⊥
 abbrev pub HasNoCond : List Token → Type 0
 HasNoCond ts = (c : tree.Cond) (r : List Token) → EndsChain r → ts ≡ cond_onto c r → ⊥
 
+-- a conjunction, before what may follow one
 abbrev pub HasNoAnd : List Token → Type 0
 HasNoAnd ts = (a : tree.And) (r : List Token) → EndsAnd r → ts ≡ and_onto a r → ⊥
 
+-- alternatives, before what may follow them
 abbrev pub HasNoOr : List Token → Type 0
 HasNoOr ts = (o : tree.Or) (r : List Token) → EndsOr r → ts ≡ or_onto o r → ⊥
 

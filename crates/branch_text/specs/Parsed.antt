@@ -6,9 +6,11 @@ use Rattle.branch_spec.specs.Tokens.{Token, lab, underscore, axis, left, right, 
 use Rattle.branch_spec.specs.Spelling as spelling
 use Rattle.path_query.specs.Labels.{SpellsLabel}
 
+-- the text spells the query, with labels as `SpellsLabel` has them
 abbrev pub Spells : List ℕ → Branch → Type 0
 Spells text q = spelling.Spells SpellsLabel text q
 
+-- whether the token has a text; `nothing` has none
 abbrev pub is_spelled : Token → Bool
 is_spelled (lab t) = true
 is_spelled underscore = true

@@ -64,5 +64,6 @@ abbrev pub form_beside : Option (List ℕ) → Arguments → Form
 form_beside None g = form_with g.make g
 form_beside (Some file) g = if is_some g.make || has_others g then neither else checks file
 
+-- what the arguments ask for
 abbrev pub arguments_form : Arguments → Form
 arguments_form g = form_beside g.check g

@@ -7,6 +7,7 @@ use Rattle.command_line.specs.declared.form.Form.TheVariants.{Run, Make, Check, 
 use Rattle.command_line.specs.declared.form.Settings.{Settings as SettingsSeen}
 use Rattle.command_line.specs.declared.arguments.Arguments.{Arguments as ArgumentsSeen}
 
+-- what the code's settings say
 abbrev pub settings_value : SettingsSeen → Settings
 settings_value s = record {
   script = s.script.now;
@@ -17,12 +18,14 @@ settings_value s = record {
   with_bk = s.with_bk;
 }
 
+-- what the code's form says
 abbrev pub form_value : FormSeen → Form
 form_value (Run s) = runs (settings_value s)
 form_value (Make seed) = makes seed
 form_value (Check file) = checks file.now
 form_value Neither = neither
 
+-- what the code's arguments say
 abbrev pub arguments_value : ArgumentsSeen → Arguments
 arguments_value g = record {
   script = option_map (λ t. t.now) g.script;

@@ -15,6 +15,7 @@ pub record Settings : Type 0 where
   -- whether the bounded forward and backward indexes are kept
   pub with_bk : Bool
 
+-- what the words ask for
 pub data Form : Type 0 where
   -- a script is run
   runs : Settings → Form

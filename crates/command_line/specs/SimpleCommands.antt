@@ -9,6 +9,7 @@ use Rattle.clap.specs.declared.parser.matches.ArgMatches.{ArgMatches}
 abbrev pub option_rule : List ℕ → Rule
 option_rule name = record (new_rule name) { long = Some name }
 
+-- whether no fault is listed
 abbrev pub is_no_fault : Kinds → Bool
 is_no_fault [] = true
 is_no_fault (k ∷ ks) = false

@@ -33,21 +33,27 @@ abbrev pub flag_words : List ℕ → Bool → List (List ℕ)
 flag_words name false = []
 flag_words name true = name ∷ []
 
+-- the name of the script
 abbrev pub script_words : ScriptUsage → List (List ℕ)
 script_words u = u.script ∷ []
 
+-- `--graph` and the name of the graph file, if it is there
 abbrev pub graph_words : ScriptUsage → List (List ℕ)
 graph_words u = option_words (codes "--graph") u.graph
 
+-- `--k` and the highest level, if it is there
 abbrev pub level_words : ScriptUsage → List (List ℕ)
 level_words u = option_words (codes "--k") u.k
 
+-- `--without-one`, where it is there
 abbrev pub one_words : ScriptUsage → List (List ℕ)
 one_words u = flag_words (codes "--without-one") u.without_one
 
+-- `--without-fb`, where it is there
 abbrev pub fb_words : ScriptUsage → List (List ℕ)
 fb_words u = flag_words (codes "--without-fb") u.without_fb
 
+-- `--with-bk`, where it is there
 abbrev pub bk_words : ScriptUsage → List (List ℕ)
 bk_words u = flag_words (codes "--with-bk") u.with_bk
 
@@ -65,6 +71,7 @@ pub data Order : Type 0 where
   level_script_graph : Order
   level_graph_script : Order
 
+-- the words of a script in this order, without its flags
 abbrev pub words_in : Order → ScriptUsage → List (List ℕ)
 words_in script_level_graph u = script_words u ++ (level_words u ++ graph_words u)
 words_in graph_script_level u = graph_words u ++ (script_words u ++ level_words u)
@@ -106,6 +113,7 @@ arguments_of_seed seed = record no_arguments { make = Some seed }
 abbrev pub arguments_of_check : List ℕ → Arguments
 arguments_of_check file = record no_arguments { check = Some file }
 
+-- what an alternative gives
 abbrev pub arguments_by : Usage → Arguments
 arguments_by (of_script u) = arguments_with u
 arguments_by (of_seed seed) = arguments_of_seed seed
@@ -124,9 +132,11 @@ abbrev pub IsPlainText : List ℕ → Type 0
 IsPlainText [] = ⊥
 IsPlainText (b ∷ bs) = b ≢ 45
 
+-- the name of the script is plain, and so are that of the graph file and the level, if they are there
 abbrev pub HasPlain : ScriptUsage → Type 0
 HasPlain u = IsPlainText u.script × IfSome u.graph IsPlainText × IfSome u.k IsPlainText
 
+-- the texts of the alternative are plain
 abbrev pub HasPlainTexts : Usage → Type 0
 HasPlainTexts (of_script u) = HasPlain u
 HasPlainTexts (of_seed seed) = IsPlainText seed

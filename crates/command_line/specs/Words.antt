@@ -53,9 +53,11 @@ arguments_in rows = record {
 abbrev pub read : List (List ℕ) → Option Arguments
 read = read_by command arguments_in
 
+-- what the arguments ask for; malformed where clap takes none
 abbrev pub form_read : Option Arguments → Form
 form_read None = neither
 form_read (Some g) = arguments_form g
 
+-- what the words ask for
 abbrev pub form_of : List (List ℕ) → Form
 form_of words = form_read (read words)

@@ -2,6 +2,7 @@
 use Rattle.std.specs.Prelude.{ℕ, List, [], ◌∷◌, ◌++◌, filter, nat_le}
 use Rattle.graph_spec.specs.Words.{node_word}
 
+-- the members whose numbers are this one or above it
 abbrev pub members_from : List ℕ → ℕ → List ℕ
 members_from members from = filter (λ m. nat_le from m) members
 

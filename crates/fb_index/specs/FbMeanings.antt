@@ -15,6 +15,7 @@ abbrev pub staged_of : Bool → Option (List (Option View))
 staged_of false = None
 staged_of true = Some (None ∷ [])
 
+-- what the index means, by its quotient if it is computed, and whether a change is prepared
 abbrev pub meaning_of : Option Quotient → Bool → Meaning
 meaning_of summary is_staged = record { kind = Fb; views = views_of summary; staged = staged_of is_staged }
 

@@ -22,6 +22,7 @@ pub record ListsPairs (p : ℕ → ℕ → Bool) (pairs : List (ℕ × ℕ)) : T
   -- a pair is listed exactly where it passes
   pub members : (u v : ℕ) → has_pair pairs u v ≡ p u v
 
+-- what a change does to a graph in the end, as lists
 pub record EffectLists : Type 0 where
   -- the nodes that come
   pub came : List ℕ
@@ -40,6 +41,7 @@ pub record EffectLists : Type 0 where
 abbrev EffectParts : Type 0
 EffectParts = List ℕ × (List ℕ × (List ℕ × (List (ℕ × ℕ) × (List (ℕ × ℕ) × List ℕ))))
 
+-- the code of the effects is that of their lists
 abbrev pub effects_code : Coded EffectLists
 effects_code =
     code_by EffectParts

@@ -28,6 +28,7 @@ gone_by g (unlink u v) = []
 gone_by g (drop u) = node_if (is_live g u) u
 gone_by g (relabel u t) = []
 
+-- the nodes of the graph that the steps take away, in the order of the steps
 abbrev pub gone_with : Graph → List Step → List ℕ
 gone_with g [] = []
 gone_with g (s ∷ ss) = gone_by g s ++ gone_with g ss

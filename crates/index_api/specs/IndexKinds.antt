@@ -13,6 +13,7 @@ use Rattle.index_api.specs.declared.kinds.Via.{Via}
 use Rattle.index_api.specs.declared.kinds.Via.TheVariants.{Data, A, One, Fb, B}
 use Rattle.index_api.specs.Meanings.{Meaning, blocks_in}
 
+-- which indexes are kept
 pub record KeptIndexes : Type 0 where
   -- the kinds of the indexes that are kept
   pub kinds : List Kind
@@ -64,6 +65,7 @@ Relates g kept One u v = Together kept.one u v
 Relates g kept Fb u v = FB (shape_of g) u v
 Relates g kept (B level) u v = Both (shape_of g) level u v
 
+-- the kind of each of these indexes
 abbrev pub kinds_of : List Meaning → List Kind
 kinds_of boxes = map (λ m. m.kind) boxes
 

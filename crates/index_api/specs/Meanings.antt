@@ -12,6 +12,7 @@ use Rattle.bisim_spec.specs.Fits.{Fits, view_at, view_count}
 use Rattle.change_spec.specs.Steps.{Step, after}
 use Rattle.change_spec.specs.NextOne.{OneStep}
 
+-- what an index means to those who use it
 pub record Meaning : Type 0 where
   -- the kind of the index
   pub kind : Kind

@@ -41,7 +41,7 @@ fn level<G: Digraph>(alloc: Global, g: &G, i: u32) -> Result<Vec<Option<u32>>, M
 /// Whether the blocks are the classes of nodes that are bisimilar to level `i` (Kaushik et al., ICDE 2002). The list has at each
 /// node's number its block; blocks may have any numbers, and their order tells nothing. Each level is made anew from the labels.
 /// `Memory` comes only where memory runs out. Expected O(i (n + m log m) + b) for n node numbers, m edges and block numbers below
-/// b; it takes 24 bytes a number, the table of a level's keys, and 16 bytes for each number below b.
+/// b; it takes 16 bytes a number, the table of a level's keys, and 16 bytes for each number below b.
 pub(crate) fn fits_level<G: Digraph>(
     alloc: Global,
     g: &G,

@@ -19,7 +19,7 @@ use std::alloc::Global;
 /// Each is told by keys in one pass.
 ///
 /// The list is as for `fits_level`. `Memory` comes only where memory runs out. Expected O(n + m log m + b) for n node numbers, m edges and
-/// block numbers below b; it takes 40 bytes a number, the tables of keys, and 16 bytes for each number below b.
+/// block numbers below b; it takes 48 bytes a number, the tables of keys, and 16 bytes for each number below b.
 pub(crate) fn is_minimal<G: Digraph>(
     alloc: Global,
     g: &G,

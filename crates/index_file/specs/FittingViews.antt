@@ -23,6 +23,7 @@ FitsVia s One block = IsStableMinimal s block
 FitsVia s Fb block = Agrees s block (FB s)
 FitsVia s (B level) block = Agrees s block (Both s level)
 
+-- there is such a view, and it fits the graph of the file
 abbrev pub FitsSaved : SavedFile → Option SavedView → Type 0
 FitsSaved file None = ⊥
 FitsSaved file (Some v) = FitsVia (shape_of file.graph) v.via v.block_of

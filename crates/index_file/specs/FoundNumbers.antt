@@ -7,10 +7,11 @@ use Rattle.std.specs.Char.{is_ascii_digit}
 abbrev pub saturated : ℕ → ℕ
 saturated n = if nat_le n 1000000000000000000 then n else 1000000000000000000
 
--- the digits in front of a text, and what stands behind them
+-- the digits in front of a text
 abbrev pub digits_ahead : List ℕ → List ℕ
 digits_ahead text = take (prefix_len is_ascii_digit text) text
 
+-- what stands behind the digits in front of a text
 abbrev pub after_digits : List ℕ → List ℕ
 after_digits text = drop (prefix_len is_ascii_digit text) text
 

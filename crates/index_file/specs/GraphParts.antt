@@ -30,6 +30,7 @@ nodes_left g views n =
 abbrev pub edges_left : Graph → ℕ → ℕ → List ℕ → ℕ → List ℕ
 edges_left g views from children n = flat_map (edge_line from) children ++ (texts_from (length g.allocated - n) n (edges_from g) ++ views_line views)
 
+-- the lines that are left at a stage
 abbrev pub stage_left : Stage → Graph → GraphLines → List ℕ
 stage_left Title g l = head_text g l.k l.views
 stage_left Nodes g l = nodes_left g l.views l.number

@@ -11,6 +11,7 @@ GivesLabel (unlink u v) = ⊤
 GivesLabel (drop u) = ⊤
 GivesLabel (relabel u t) = SpellsLabel t t
 
+-- the labels that the steps give are each spelled as they are
 abbrev pub GiveLabels : List Step → Type 0
 GiveLabels [] = ⊤
 GiveLabels (s ∷ steps) = GivesLabel s × GiveLabels steps

@@ -12,6 +12,7 @@ abbrev pub JoinLive : List (Option (List ℕ)) → List (ℕ × ℕ) → Type 0
 JoinLive allocated [] = ⊤
 JoinLive allocated (e ∷ es) = IsTrue (is_live_in allocated e.0) × IsTrue (is_live_in allocated e.1) × JoinLive allocated es
 
+-- the pairs rise, and each joins live nodes
 pub record AreReadEdges (allocated : List (Option (List ℕ))) (pairs : List (ℕ × ℕ)) : Type 0 where
   -- the pairs rise
   pub rise : RiseBehind None pairs

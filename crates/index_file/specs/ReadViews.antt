@@ -36,5 +36,6 @@ abbrev pub ranked_view_code : Coded RankedView
 ranked_view_code =
     code_by (Via × List ℕ) (coded× via_row.coded (coded_list coded_ℕ)) (λ v. (v.via, v.ranks)) (λ p. record { via = p.0; ranks = p.1 }) (λ _. refl)
 
+-- the code of views as they are read
 abbrev pub read_views_code : Coded (List RankedView)
 read_views_code = coded_list ranked_view_code

@@ -31,6 +31,7 @@ pub record Reading : Type 0 where
   -- the views that were read
   pub views : List RankedView
 
+-- before the first line
 abbrev pub nothing_read : Reading
 nothing_read = record { due = Title; k = 0; allocated = []; pairs = []; views = [] }
 
@@ -114,10 +115,11 @@ with_rank (v ∷ w ∷ ws) r = option_and_then (λ vs. Some (v ∷ vs)) (with_ra
 abbrev pub counted_views : ℕ → ℕ
 counted_views n = saturated n
 
--- each step, by what is due. None: what the line says can't stand here.
+-- n numbers are due, and levels go up to k; none where k is more than 8
 abbrev pub take_given : ℕ → ℕ → Reading → Option Reading
 take_given n k r = if nat_le k 8 then Some (record r { due = Nodes n; k = k }) else None
 
+-- one more number has this label, or is gone; n are left
 abbrev pub take_node : ℕ → Option (List ℕ) → Reading → Option Reading
 take_node n label r = Some (record r { due = Nodes n; allocated = r.allocated ++ label ∷ [] })
 
@@ -125,6 +127,7 @@ take_node n label r = Some (record r { due = Nodes n; allocated = r.allocated ++
 abbrev pub can_take_edge : Reading → ℕ → ℕ → Bool
 can_take_edge r u v = is_live_in r.allocated u && (is_live_in r.allocated v && is_behind (last_of r.pairs) u v)
 
+-- one more edge is read, and m are left; none where it can't come next
 abbrev pub take_edge : ℕ → ℕ → ℕ → Reading → Option Reading
 take_edge m u v r = if can_take_edge r u v then Some (record r { due = Edges m; pairs = r.pairs ++ (u, v) ∷ [] }) else None
 
@@ -132,14 +135,17 @@ take_edge m u v r = if can_take_edge r u v then Some (record r { due = Edges m; 
 abbrev pub can_take_view : Reading → ℕ → Via → Bool
 can_take_view r n via = nat_lt (length r.views) n && follows r.k (last_via r.views) via
 
+-- one more view begins, with no ranks yet; none where it can't come next
 abbrev pub take_view : ℕ → Via → Reading → Option Reading
 take_view n via r =
     if can_take_view r n via
     then Some (record r { due = Ranks (live_in r.allocated) n; views = r.views ++ record { via = via; ranks = [] } ∷ [] }) else None
 
+-- one more rank of the last view is read, and m are left; none where it is too great, or there is no view
 abbrev pub take_rank : ℕ → ℕ → ℕ → Reading → Option Reading
 take_rank m n rank r = option_and_then (λ vs. Some (record r { due = Ranks m n; views = vs })) (with_rank r.views rank)
 
+-- what is read once the line is, where this is due; none where it can't stand here
 abbrev pub step : Due → Statement → Reading → Option Reading
 step Title statement.title r = Some (record r { due = Given })
 step Given (statement.given n k) r = take_given n k r
@@ -163,6 +169,7 @@ exceeds_at limits (Nodes (suc n)) (statement.live t) r = not (is_seen (seen_of r
 exceeds_at limits (Nodes zero) (statement.edges m) r = nat_lt limits.edges m
 exceeds_at limits due s r = false
 
+-- the same, with what is due by the reading
 abbrev pub exceeds : Limits → Statement → Reading → Bool
 exceeds limits s r = exceeds_at limits r.due s r
 
@@ -178,6 +185,7 @@ is_done (Ranks m n) count = nat_eq m 0 && nat_eq count n
 abbrev pub is_complete : Reading → Bool
 is_complete r = is_done r.due (length r.views) && is_end r.k (last_via r.views)
 
+-- the view whose ranks were read, with one at the number of each live node
 abbrev pub view_in : List (Option (List ℕ)) → RankedView → SavedView
 view_in allocated v = record { via = v.via; block_of = ranks_at allocated v.ranks }
 

@@ -23,6 +23,7 @@ pub record Spelled (text : List ℕ) (file : SavedFile) : Type 0 where
   -- the file is what was read
   pub holds : file ≡ file_of last
 
+-- what a text comes to as an index file
 pub data Outcome : Type 0 where
   -- the file holds this
   holds : SavedFile → Outcome
@@ -39,6 +40,7 @@ pub record Place : Type 0 where
   pub lines : ℕ
   pub bytes : ℕ
 
+-- before the first line
 abbrev pub at_start : Place
 at_start = record { reading = nothing_read; lines = 0; bytes = 0 }
 
@@ -46,6 +48,7 @@ at_start = record { reading = nothing_read; lines = 0; bytes = 0 }
 abbrev pub past : Place → Line → Reading → Place
 past p l reading = record { reading = reading; lines = p.lines + 1; bytes = p.bytes + length l.text + length l.end }
 
+-- the line isn't too long, nor is the file up to its end
 abbrev pub IsWithinFile : Place → Line → Type 0
 IsWithinFile p l = (length l.text ≤ LINE_BYTES) × (p.bytes + length l.text + length l.end ≤ GRAPH_BYTES)
 

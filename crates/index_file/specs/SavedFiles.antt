@@ -12,10 +12,11 @@ pub record SavedView : Type 0 where
   -- at each number the rank of that node's block; none where the node is gone
   pub block_of : List (Option ℕ)
 
+-- what an index file holds
 pub record SavedFile : Type 0 where
   -- the graph of the file
   pub graph : Graph
-  -- the highest level of the A(k)-family
+  -- the highest level of the families
   pub k : ℕ
   -- the partitions, in the order of the file
   pub views : List SavedView
@@ -26,9 +27,11 @@ seen_after seen [] = seen
 seen_after seen (None ∷ allocated) = seen_after seen allocated
 seen_after seen (Some t ∷ allocated) = seen_after (with_label seen t) allocated
 
+-- the labels of live nodes, each once, in the order of their first nodes
 abbrev pub seen_of : List (Option (List ℕ)) → List (List ℕ)
 seen_of allocated = seen_after [] allocated
 
+-- the set of these edges
 abbrev pub edges_of : List (ℕ × ℕ) → Edges
 edges_of [] = set.empty
 edges_of (e ∷ es) = set.insert (edges_of es) e

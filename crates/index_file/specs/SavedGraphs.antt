@@ -42,6 +42,7 @@ pub record ArePlacesBelow (allocated : List (Option (List ℕ))) (n live : ℕ) 
   -- so many of the first n are live
   pub live_is : live ≡ live_in (take n allocated)
 
+-- what is written: few enough numbers and views, a graph with its lists, ranks for its live nodes, and their places
 pub record IsSaved (allocated : List (Option (List ℕ))) (children parents : List (List ℕ)) (views : List RankedView) (places : List ℕ) : Type 0 where
   -- there are fewer than 2^32 numbers
   pub few_nodes : length allocated ≤ 4294967295
@@ -56,18 +57,21 @@ pub record IsSaved (allocated : List (Option (List ℕ))) (children parents : Li
   -- the places are the counts of live nodes below
   pub placed : ArePlaces allocated places
 
--- the index of the view at a place, and its blocks
+-- the index of a view, if there is one
 abbrev pub index_of : Option SavedView → Option Via
 index_of None = None
 index_of (Some v) = Some v.via
 
+-- the index of the view in that place, if there is one
 abbrev pub via_at : SavedFile → ℕ → Option Via
 via_at file j = index_of (slice_get file.views j)
 
+-- the blocks of a view; nothing where there is none
 abbrev pub blocks_of : Option SavedView → List (Option ℕ)
 blocks_of None = []
 blocks_of (Some v) = v.block_of
 
+-- the blocks of the view in that place; nothing where there is none
 abbrev pub blocks_at : SavedFile → ℕ → List (Option ℕ)
 blocks_at file j = blocks_of (slice_get file.views j)
 
@@ -77,6 +81,7 @@ saved_view_code =
     code_by (Via × List (Option ℕ)) (coded× via_row.coded (coded_list (coded_option coded_ℕ))) (λ v. (v.via, v.block_of))
     (λ p. record { via = p.0; block_of = p.1 }) (λ _. refl)
 
+-- the code of a file is that of its parts
 abbrev pub saved_file_code : Coded SavedFile
 saved_file_code =
     code_by (Graph × (ℕ × List SavedView)) (coded× graph_code (coded× coded_ℕ (coded_list saved_view_code))) (λ f. (f.graph, (f.k, f.views)))

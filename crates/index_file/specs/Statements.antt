@@ -7,6 +7,7 @@ use Rattle.path_query.specs.Labels.{SpellsLabel}
 use Rattle.index_api.specs.declared.kinds.Via.{Via}
 use Rattle.index_api.specs.declared.kinds.Via.TheVariants.{Data, A, One, Fb, B}
 
+-- what a line says
 pub data Statement : Type 0 where
   -- the first line
   title : Statement
@@ -34,6 +35,7 @@ is_decimal digits = list_all is_ascii_digit digits && (length digits == 1 || not
 abbrev pub number_of : List ℕ → Option ℕ
 number_of digits = if is_decimal digits then Some (digits_value 10 digits) else None
 
+-- the digits write this number
 abbrev pub IsNumber : List ℕ → ℕ → Type 0
 IsNumber digits n = number_of digits ≡ Some n
 

@@ -25,6 +25,7 @@ pub record TestedView : Type 0 where
   -- whether two nodes are in one block
   pub test : ℕ → ℕ → Bool
 
+-- the views, one behind another
 abbrev pub views_text : Shape → List TestedView → List ℕ
 views_text s [] = []
 views_text s (v ∷ vs) = view_text s v.test v.via ++ views_text s vs
@@ -37,6 +38,7 @@ file_text g k views = head_text g k (length views) ++ views_text (shape_of g) vi
 abbrev pub block_at : Shape → (ℕ → ℕ → Bool) → ℕ → Option ℕ
 block_at s r n = if is_some (s.label n) then Some (rank_of s r n) else None
 
+-- the same for each number below n, rising
 abbrev pub blocks_below : ℕ → Shape → (ℕ → ℕ → Bool) → List (Option ℕ)
 blocks_below zero s r = []
 blocks_below (suc n) s r = blocks_below n s r ++ block_at s r n ∷ []
@@ -45,6 +47,7 @@ blocks_below (suc n) s r = blocks_below n s r ++ block_at s r n ∷ []
 abbrev pub blocks_by : Shape → (ℕ → ℕ → Bool) → List (Option ℕ)
 blocks_by s r = blocks_below s.size s r
 
+-- the view as a file holds it
 abbrev pub saved_view : Shape → TestedView → SavedView
 saved_view s v = record { via = v.via; block_of = blocks_by s v.test }
 

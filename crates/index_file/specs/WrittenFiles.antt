@@ -17,16 +17,19 @@ abbrev pub node_line : Option (List ℕ) → List ℕ
 node_line None = codes "gone" ++ 10 ∷ []
 node_line (Some t) = codes "live " ++ t ++ 10 ∷ []
 
+-- the line of an edge: where it begins, and where it ends
 abbrev pub edge_line : ℕ → ℕ → List ℕ
 edge_line u v = decimal u ++ 32 ∷ decimal v ++ 10 ∷ []
 
--- the lines of the edges that begin at a node, and of all, by where they begin, and then by where they end
+-- the lines of the edges that begin at a node, by where they end
 abbrev pub edges_from : Graph → ℕ → List ℕ
 edges_from g u = texts_below (length g.allocated) (λ v. if has_edge g u v then edge_line u v else [])
 
+-- the lines of all edges, by where they begin, and then by where they end
 abbrev pub edge_lines : Graph → List ℕ
 edge_lines g = texts_below (length g.allocated) (edges_from g)
 
+-- the lines of all allocated numbers, rising
 abbrev pub node_lines : Graph → List ℕ
 node_lines g = texts_below (length g.allocated) (λ n. node_line (label_of g n))
 
@@ -49,6 +52,7 @@ rank_of s r n = count_below (least n (is_related s r n)) (is_first s r)
 abbrev pub rank_line : Shape → (ℕ → ℕ → Bool) → ℕ → List ℕ
 rank_line s r n = if is_some (s.label n) then decimal (rank_of s r n) ++ 10 ∷ [] else []
 
+-- the lines of all nodes, by rising numbers
 abbrev pub rank_lines : Shape → (ℕ → ℕ → Bool) → List ℕ
 rank_lines s r = texts_below s.size (rank_line s r)
 

@@ -33,9 +33,11 @@ blocks_below p (suc n) = blocks_below p n ++ block_led p n
 abbrev pub blocks_of : Partition → List Block
 blocks_of p = blocks_below p (length p.block_of)
 
+-- where a list has no block
 abbrev pub no_block : Block
 no_block = record { number = 0; first = 0; count = 0; label = 0 }
 
+-- where a list has no pair
 abbrev pub no_pair : Pair
 no_pair = record { from = no_block; onto = no_block; support = 0 }
 
@@ -62,11 +64,12 @@ heaviest most weight none xs = heaviest_with most weight none [] xs
 abbrev pub drawn_blocks : ℕ → Partition → List Block
 drawn_blocks most p = heaviest most (λ b. b.count) no_block (blocks_of p)
 
--- the pair of two blocks, if an edge leads from a node of the one to a node of the other
+-- the pair of two blocks with this support, if it isn't 0
 abbrev pub if_supported : Block → Block → ℕ → List Pair
 if_supported a b zero = []
 if_supported a b (suc n) = record { from = a; onto = b; support = suc n } ∷ []
 
+-- the pair of two blocks, if an edge leads from a node of the one to a node of the other
 abbrev pub pair_of : Quotient → Block → Block → List Pair
 pair_of q a b = if_supported a b (support_at q.supports a.number b.number)
 
@@ -92,10 +95,11 @@ has_parent_in edge block a v = any_below (length block) (λ u. edge u v && is_th
 abbrev pub covers : (ℕ → ℕ → Bool) → List (Option ℕ) → ℕ → ℕ → Bool
 covers edge block a b = all_below (length block) (λ v. not (is_this b (at block v)) || has_parent_in edge block a v)
 
--- labels, each once, in the order of their first use
+-- the labels and this one, if it isn't among them
 abbrev pub with_label : List ℕ → ℕ → List ℕ
 with_label used l = if has used l then used else used ++ l ∷ []
 
+-- the labels and those of the blocks, each once, in the order of their first use
 abbrev pub labels_with : List ℕ → List Block → List ℕ
 labels_with used [] = used
 labels_with used (b ∷ bs) = labels_with (with_label used b.label) bs

@@ -10,6 +10,7 @@ use Rattle.block_partition.specs.LabelledPartitions.{Partition}
 abbrev pub own_block : Graph → ℕ → ℕ
 own_block g n = count_below n (is_live g)
 
+-- that number where the node is live, and else none
 abbrev pub lone_block : Graph → ℕ → Option ℕ
 lone_block g n = if is_live g n then Some (own_block g n) else None
 

@@ -19,6 +19,7 @@ palette = codes "#cfe2f3#fce5cd#d9ead3#ead1dc#fff2cc#d9d2e9#d0e0e3#f4cccc#e2f0d9
 abbrev pub colour_at : ℕ → List ℕ
 colour_at n = take 7 (drop (n % 12 * 7) palette)
 
+-- the colour of a label, by its place among those used; the first colour where it has none
 abbrev pub colour_of : List ℕ → ℕ → List ℕ
 colour_of used l = colour_at (unwrap_or (position (nat_eq l) used) 0)
 
@@ -30,6 +31,7 @@ label_text texts l = slice_index_or texts l []
 abbrev pub count_text : ℕ → List ℕ
 count_text count = if nat_eq count 1 then [] else codes "\\n" ++ (quoted (decimal count) ++ codes " nodes")
 
+-- the names of nodes, each behind a comma and a space
 abbrev pub others_text : List (List ℕ) → List ℕ → List ℕ
 others_text names ns = flat_map (λ n. codes ", " ++ quoted (node_name names n)) ns
 
@@ -95,16 +97,19 @@ is_whole blocks pairs = nat_eq blocks 0 && nat_eq pairs 0
 abbrev pub note_line : ℕ → ℕ → List ℕ
 note_line blocks pairs = if is_whole blocks pairs then [] else left_text blocks pairs
 
+-- the line that opens the graph, and how it, its boxes and its edges look
 abbrev pub head_text : List ℕ
 head_text = codes "digraph pathindex {\n  rankdir=TB; nodesep=0.25; ranksep=0.45;\n  node [fontname=\"Helvetica\" fontsize=11 shape=box style=\"filled,rounded\" penwidth=0.8 margin=\"0.12,0.06\"];\n  edge [fontname=\"Helvetica\" fontsize=9 arrowsize=0.7 color=\"#555555\"];\n"
 
+-- the line that closes the graph
 abbrev pub tail_text : List ℕ
 tail_text = codes "}\n"
 
--- the lines of blocks and of pairs
+-- the lines of blocks
 abbrev pub block_lines : List (List ℕ) → List (List ℕ) → ℕ → Partition → List Block → List ℕ
 block_lines texts names most p bs = flat_map (block_line texts names most p (labels_used bs)) bs
 
+-- the lines of pairs
 abbrev pub pair_lines : (ℕ → ℕ → Bool) → Partition → List Pair → List ℕ
 pair_lines edge p rs = flat_map (pair_line edge p) rs
 

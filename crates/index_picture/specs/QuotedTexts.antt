@@ -25,6 +25,7 @@ pub data Reading : Type 0 where
   -- between quotes, behind a backslash
   escaped : Reading
 
+-- where Graphviz is behind one more byte
 abbrev pub read_byte : Reading → ℕ → Reading
 read_byte outside b = if nat_eq b 34 then inside else outside
 read_byte inside b = if nat_eq b 34 then outside else (if nat_eq b 92 then escaped else inside)

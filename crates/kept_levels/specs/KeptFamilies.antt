@@ -19,6 +19,7 @@ use Rattle.level_update.specs.FamilyDrafts.{most_steps}
 use Rattle.index_api.specs.IndexKinds.{is_kind}
 use Rattle.index_api.specs.Meanings.{Meaning}
 
+-- a family that is kept, and what a change will make of it
 pub record KeptFamily : Type 0 where
   -- the levels as they are
   pub base : List KeyedQuotient

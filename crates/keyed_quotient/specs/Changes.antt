@@ -11,6 +11,7 @@ use Rattle.quotient_draft.specs.Basis.{IsOver}
 use Rattle.quotient_draft.specs.ReservedCapacity.{HasRoomFor}
 use Rattle.keyed_quotient.specs.KeyedQuotients.{KeyedQuotient, key_at, AreKeyed}
 
+-- what is drafted over a quotient with keys
 pub record KeyedChanges : Type 0 where
   -- what is drafted over the quotient
   pub drafted : Drafted
@@ -23,16 +24,19 @@ changes_code =
     code_by (Drafted × List (ℕ × List ℕ)) (coded× drafted_code (coded_list (coded× coded_ℕ (coded_list coded_ℕ)))) (λ d. (d.drafted, d.keys))
     (λ p. record { drafted = p.0; keys = p.1 }) (λ _. refl)
 
+-- nothing is drafted
 abbrev pub no_keyed_changes : KeyedChanges
 no_keyed_changes = record { drafted = no_changes; keys = [] }
 
--- the blocks of nodes as shown, their labels and their supports
+-- the block of each node as shown
 abbrev pub blocks_as_shown : KeyedQuotient → KeyedChanges → List (Option ℕ)
 blocks_as_shown q d = shown_blocks q.quotient d.drafted
 
+-- the label of each block as shown
 abbrev pub labels_as_shown : KeyedQuotient → KeyedChanges → List (Option ℕ)
 labels_as_shown q d = shown_labels q.quotient d.drafted
 
+-- the support of two blocks as shown
 abbrev pub support_as_shown : KeyedQuotient → KeyedChanges → ℕ → ℕ → ℕ
 support_as_shown q d a b = shown_support q.quotient d.drafted a b
 

@@ -14,6 +14,7 @@ pub record ReservedKeys : Type 0 where
   -- blocks with numbers below this one
   pub span : ℕ
 
+-- a quotient, with the keys of its blocks
 pub record KeyedQuotient : Type 0 where
   -- the blocks and their supports
   pub quotient : Quotient

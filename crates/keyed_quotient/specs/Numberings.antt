@@ -4,6 +4,7 @@ use Rattle.graph_spec.specs.Members.{at}
 use Rattle.key_table.specs.NumberedKeys.{AreDistinct}
 use Rattle.keyed_quotient.specs.KeyedQuotients.{ReservedKeys}
 
+-- keys and their numbers, and which number and which block lead to each other
 pub record Numbering : Type 0 where
   -- the keys, by their numbers
   pub table : List (List ℕ)

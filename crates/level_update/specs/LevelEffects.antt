@@ -152,14 +152,15 @@ pub record AreLevelsDrafted (lone : List ℕ) (g2 : Graph) (f : List KeyedQuotie
   -- each level shows g2, with these nodes in the blocks of their own numbers
   pub each : (i : ℕ) → i < length f → IsLevelDrafted lone g2 f d i
 
--- On the way, once the edges that go have been taken out of the supports; once the nodes that go have no blocks; and
--- once the edges that come have been added to the supports.
+-- on the way, once the edges that go have been taken out of the supports
 abbrev pub HasEdgesLowered : Pending → EffectLists → List KeyedQuotient → List KeyedChanges → ℕ → Type 0
 HasEdgesLowered a e f d i = IsLevelOnWay (graph_after a) (without_edges a.before e.lost) e.came [] f d i
 
+-- then, once the nodes that go have no blocks
 abbrev pub HasNodesLeft : Pending → EffectLists → List KeyedQuotient → List KeyedChanges → ℕ → Type 0
 HasNodesLeft a e f d i = IsLevelOnWay (graph_after a) (without_edges a.before e.lost) e.came e.gone f d i
 
+-- then, once the edges that come have been added to the supports
 abbrev pub HasEdgesRaised : Pending → EffectLists → List KeyedQuotient → List KeyedChanges → ℕ → Type 0
 HasEdgesRaised a e f d i = IsLevelOnWay (graph_after a) (with_edges (without_edges a.before e.lost) e.added) e.came e.gone f d i
 

@@ -16,6 +16,7 @@ use Rattle.index_api.specs.Meanings.{Meaning}
 use Rattle.one_merge.specs.ParentlessBlocks.{ParentlessLists, CoversBase, CoversShown}
 use Rattle.one_update.specs.OneDrafts.{IsSupported, most_steps}
 
+-- a 1-index that is kept, and a draft over it
 pub record KeptQuotient : Type 0 where
   -- the 1-index as it is
   pub base : Quotient

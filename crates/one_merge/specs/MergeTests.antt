@@ -29,8 +29,9 @@ pub record AreParentsSatisfied (adjacent : ℕ → ℕ → Bool) (a b c d : ℕ)
 pub record AreMergeable (block : List (Option ℕ)) (labels : ℕ → Option ℕ) (adjacent : ℕ → ℕ → Bool) (a b : ℕ) : Type 0 where
   -- they are two blocks
   pub apart : a ≢ b
-  -- each of them has a member
+  -- the one has a member
   pub first : (n : ℕ) × (at block n ≡ Some a)
+  -- so has the other
   pub second : (n : ℕ) × (at block n ≡ Some b)
   -- both have one label
   pub label : labels a ≡ labels b

@@ -7,7 +7,8 @@ use Rattle.one_spec.specs.Merges.{Merges, AreMergeCandidates}
 use Rattle.one_spec.specs.Viewed.{IsViewed, IsMergedToEnd}
 use Rattle.quotient.specs.Quotients.{Quotient}
 use Rattle.quotient_draft.specs.Drafts.{Drafted, shown_labels, shown_blocks, has_member}
-pub use Rattle.one_merge.specs.MergeableShown.{ShowsStablePartition, ShowsSupportsOfGraph, AreShownMergeable, AreShownNotMergeable, StayEdgeCounts, LabelsStayRight, AreDraftedParents}
+pub use Rattle.one_merge.specs.MergeableShown.{ShowsStablePartition, ShowsSupportsOfGraph, AreShownMergeable, AreShownNotMergeable}
+pub use Rattle.one_merge.specs.MergeableShown.{StayEdgeCounts, LabelsStayRight, AreDraftedParents}
 use Rattle.one_merge.specs.MergeTests.{shown_adjacent}
 
 -- of each two blocks as shown that can be merged one is among these

@@ -114,8 +114,8 @@ fn merge_pairs(
 
 /// Merges blocks as shown. If the partition shown is stable, with the right labels and supports, and of any two blocks
 /// that can be merged one is among the merge candidates, then no two can be merged afterwards. `parentless` lists each
-/// parentless block of the base, and maybe others; those of the settled draft come to it. It skips numbers of no block,
-/// and blocks without members. The supports must be those of a graph with at most 2^30 edges, and blocks with members
+/// parentless block of the base, and maybe others; those of the settled draft are added. Candidates that are no block, or
+/// have no members, are skipped. The supports must be those of a graph with at most 2^30 edges, and blocks with members
 /// have labels. Where memory runs out, the draft may hold a part of this.
 ///
 /// Of two blocks that are merged the one with fewer members and children is moved, or the one with far more drafted pairs

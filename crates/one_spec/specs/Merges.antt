@@ -8,8 +8,9 @@ use Rattle.bisim_spec.specs.Stability.{Mergeable, merged_at}
 pub record IsMergeablePair (s : Shape) (p : List (Option ℕ)) (a b : ℕ) : Type 0 where
   -- they are two blocks
   pub apart : a ≢ b
-  -- each of them has a member
+  -- the one has a member
   pub first : (n : ℕ) × (at p n ≡ Some a)
+  -- so has the other
   pub second : (n : ℕ) × (at p n ≡ Some b)
   -- the partition is stable once they are one block
   pub can : Mergeable s p a b
@@ -31,11 +32,13 @@ pub record AreMergeCandidates (s : Shape) (p : List (Option ℕ)) (among : ℕ �
 
 -- some edge leads from a member of a to a member of c
 pub record IsChildBlock (s : Shape) (p : List (Option ℕ)) (a c : ℕ) : Type 0 where
-  -- the nodes at the two ends of the edge
+  -- the node where the edge begins
   pub from : ℕ
+  -- the node where it ends
   pub onto : ℕ
   -- it leads from the one to the other
   pub edge : IsParent s from onto
-  -- the first is a member of a, the second one of c
+  -- the first is a member of a
   pub from_at : at p from ≡ Some a
+  -- the second is a member of c
   pub onto_at : at p onto ≡ Some c

@@ -23,9 +23,11 @@ pub record IsSplitInside (s : Shape) (inside : ℕ → Bool) (first p : List (Op
   pub same : SameBut first p inside
   -- nodes that are together have one label
   pub labels : (u v : ℕ) → Together p u v → s.label u ≡ s.label v
-  -- what is examined next are nodes, each inside, and a child of a node inside
+  -- what is examined next are nodes
   pub next_nodes : (n : ℕ) → IsTrue (has next n) → IsNode s n
+  -- each of them is inside
   pub next_inside : (n : ℕ) → IsTrue (has next n) → IsTrue (inside n)
+  -- each is a child of a node inside
   pub next_from : (n : ℕ) → IsTrue (has next n) → (q : ℕ) × IsTrue (inside q) × IsParent s q n
   -- each node is in a block that was made, or in its block of the first partition
   pub moved_new : (n b : ℕ) → at p n ≡ Some b → IsTrue (has new_blocks b) ⊎ (at first n ≡ Some b)

@@ -12,6 +12,7 @@ pub record BeginsAt (keys : List (List ℕ)) (k own : ℕ) : Type 0 where
   -- the key at place k is this number and then those
   pub found : slice_get keys k ≡ Some (own ∷ around)
 
+-- the block to which the group of the k-th key goes, if there is one
 abbrev pub target_block_at : List (Option ℕ) → ℕ → Option ℕ
 target_block_at target_blocks k = slice_index_or target_blocks k None
 

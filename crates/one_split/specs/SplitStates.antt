@@ -48,9 +48,11 @@ pub record IsSplitBut (s : Shape) (inside : ℕ → Bool) (first p : List (Optio
   pub same : SameBut first p inside
   -- nodes that are together have one label, if neither is a target that is left
   pub labels : (u v : ℕ) → IsFalse (rest u) → IsFalse (rest v) → Together p u v → s.label u ≡ s.label v
-  -- what is examined next are nodes, each inside, and a child of a node inside
+  -- what is examined next are nodes
   pub next_nodes : (n : ℕ) → IsTrue (has next n) → IsNode s n
+  -- each of them is inside
   pub next_inside : (n : ℕ) → IsTrue (has next n) → IsTrue (inside n)
+  -- each is a child of a node inside
   pub next_from : (n : ℕ) → IsTrue (has next n) → (q : ℕ) × IsTrue (inside q) × IsParent s q n
   -- each node is in a block that was made, or in its block of the first partition
   pub moved_new : (n b : ℕ) → at p n ≡ Some b → IsTrue (has new_blocks b) ⊎ (at first n ≡ Some b)
@@ -99,8 +101,8 @@ SplitsInside a targets base d d2 next new_blocks =
     (inside : ℕ → Bool) → IsClosed (shape_of (graph_after a)) inside → ((n : ℕ) → IsTrue (has targets n) → IsTrue (inside n))
     → IsSplitInside (shape_of (graph_after a)) inside (shown_blocks base d) (shown_blocks base d2) next new_blocks
 
--- whatever set is closed under children and has the targets: the steps are at most four times its numbers and one,
--- times what the change costs at them
+-- whatever set is closed under children and has the targets: the steps are at most 4 (r + 1) w, where the set has r node
+-- numbers and w is what the change costs at it
 abbrev pub CostsInside : Pending → List ℕ → ℕ → ℕ → Type 0
 CostsInside a targets steps steps2 =
     (inside : ℕ → Bool) → IsClosed (shape_of (graph_after a)) inside → ((n : ℕ) → IsTrue (has targets n) → IsTrue (inside n))

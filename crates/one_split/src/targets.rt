@@ -134,7 +134,7 @@ fn part_all<L: Ledger>(
 /// Splits blocks in the draft until the partition shown is stable on the graph after the change, where before it was
 /// stable except perhaps at the targets. Targets without a block are skipped, and each is listed once. The blocks that
 /// are made are put into `new_blocks`, which is empty before. Whatever set is closed under children and holds the targets,
-/// only its nodes are read and moved.
+/// only its nodes are moved, and only their neighbours are read.
 ///
 /// It takes at most `4 * ((r + 1) * w)` steps, where the set has `r` nodes, and `w` is what the change costs at it: one for
 /// each of them, for each parent and for each child, one for each step of the change, and one for each node that goes, for

@@ -86,17 +86,22 @@ HaveSupport q d u v = (x y : ℕ) → at (shown_blocks q d) u ≡ Some x → at 
 
 -- ---- how far the effects are drafted
 
+-- nothing is drafted of the effects
 abbrev pub NothingDrafted : Pending → Quotient → Drafted → Type 0
 NothingDrafted a q d = IsIndexOnWay (graph_after a) a.before [] [] q d
 
+-- the nodes that come are in blocks
 abbrev pub NodesHaveCome : Pending → EffectLists → Quotient → Drafted → Type 0
 NodesHaveCome a e q d = IsIndexOnWay (graph_after a) a.before e.came [] q d
 
+-- then the edges that go have been taken out of the supports
 abbrev pub EdgesHaveGone : Pending → EffectLists → Quotient → Drafted → Type 0
 EdgesHaveGone a e q d = IsIndexOnWay (graph_after a) (without_edges a.before e.lost) e.came [] q d
 
+-- then the nodes that go have no blocks
 abbrev pub NodesHaveGone : Pending → EffectLists → Quotient → Drafted → Type 0
 NodesHaveGone a e q d = IsIndexOnWay (graph_after a) (without_edges a.before e.lost) e.came e.gone q d
 
+-- then the edges that come have been added to the supports
 abbrev pub EdgesHaveCome : Pending → EffectLists → Quotient → Drafted → Type 0
 EdgesHaveCome a e q d = IsIndexOnWay (graph_after a) (with_edges (without_edges a.before e.lost) e.added) e.came e.gone q d

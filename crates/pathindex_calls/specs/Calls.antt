@@ -52,6 +52,7 @@ pub record Kept : Type 0 where
   -- the steps of the group that is begun, none where none is
   pub group : Option (List Step)
 
+-- the session and the group that are held
 abbrev pub kept_by : Held → Kept
 kept_by h = record { session = h.session; group = h.group }
 
@@ -87,15 +88,17 @@ pub record IsChecked (v : ℕ) (walk text : List ℕ) (h i : Held) (code : ℕ) 
   -- the code is that of the reply
   pub code_is : code ≡ i.reply.code
 
--- the nodes and edges of the graph, and the number that its next node gets; 0, where no session is open
+-- how many nodes the graph has; 0, where no session is open
 abbrev pub nodes_in : Option SessionOf → ℕ
 nodes_in None = 0
 nodes_in (Some s) = live_count (graph_of s)
 
+-- how many edges the graph has; 0, where no session is open
 abbrev pub edges_in : Option SessionOf → ℕ
 edges_in None = 0
 edges_in (Some s) = edge_count (graph_of s)
 
+-- the number that the graph's next node gets; 0, where no session is open
 abbrev pub next_in : Option SessionOf → ℕ
 next_in None = 0
 next_in (Some s) = length (graph_of s).allocated
@@ -127,15 +130,17 @@ pub record IsEmpty (h : Held) : Type 0 where
   -- the reply has the code 0
   pub reply : h.reply ≡ said 0
 
--- what was found last: none of it, where no session is open
+-- the nodes found last; none, where no session is open
 abbrev pub found_nodes : Option SessionOf → List ℕ
 found_nodes None = []
 found_nodes (Some s) = s.nodes
 
+-- the walk found last; empty, where no session is open
 abbrev pub found_walk : Option SessionOf → List ℕ
 found_walk None = []
 found_walk (Some s) = s.walk
 
+-- the text made last; empty, where no session is open
 abbrev pub found_text : Option SessionOf → List ℕ
 found_text None = []
 found_text (Some s) = s.text

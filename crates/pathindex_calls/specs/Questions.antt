@@ -38,8 +38,9 @@ pub record Asks (spells : Query → Type 0) (asked : List ℕ) (via : Via) (s t 
   pub names : t.names ≡ s.names
   -- an error leaves the nodes that were found last
   pub err : OnErr answer (t.nodes ≡ s.nodes)
-  -- the walk and the text found last stay
+  -- the walk found last stays
   pub walk : t.walk ≡ s.walk
+  -- the text made last stays
   pub text : t.text ≡ s.text
 
 -- It was asked why a node answers.
@@ -54,11 +55,13 @@ pub record Explains (asked : List ℕ) (v : ℕ) (s t : SessionOf) (reply : Repl
   pub no_walk : answer ≡ Ok false → t.walk ≡ s.walk
   -- an error leaves the walk that was found last
   pub err : OnErr answer (t.walk ≡ s.walk)
-  -- the engine stays, and the numbers of terms and triples
+  -- the engine stays
   pub engine : t.engine ≡ s.engine
+  -- the numbers of terms and triples stay
   pub names : t.names ≡ s.names
-  -- the nodes and the text found last stay
+  -- the nodes found last stay
   pub nodes : t.nodes ≡ s.nodes
+  -- the text made last stays
   pub text : t.text ≡ s.text
 
 -- It was asked whether a list of nodes shows that one answers.
@@ -105,8 +108,9 @@ pub record Measures (s t : SessionOf) (reply : Reply) : Type 0 where
   pub names : t.names ≡ s.names
   -- an error leaves the text
   pub err : OnErr answer (t.text ≡ s.text)
-  -- the nodes and the walk found last stay
+  -- the nodes found last stay
   pub nodes : t.nodes ≡ s.nodes
+  -- the walk found last stays
   pub walk : t.walk ≡ s.walk
 
 -- The index file of the graph and of its indexes was made.
@@ -125,8 +129,9 @@ pub record Saves (s t : SessionOf) (reply : Reply) : Type 0 where
   pub names : t.names ≡ s.names
   -- an error leaves the text
   pub err : OnErr answer (t.text ≡ s.text)
-  -- the nodes and the walk found last stay
+  -- the nodes found last stay
   pub nodes : t.nodes ≡ s.nodes
+  -- the walk found last stays
   pub walk : t.walk ≡ s.walk
 
 -- The index of a kind was dropped.

@@ -30,26 +30,32 @@ counted count = record { code = 0; how = 0; count = count; number = 0 }
 abbrev pub found : ℕ → ℕ → ℕ → Reply
 found how count candidates = record { code = 0; how = how; count = count; number = candidates }
 
+-- the code of a refusal
 abbrev pub refusal_code : Refusal → ℕ
 refusal_code NoNode = 1
 refusal_code NoEdge = 2
 refusal_code Limit = 4
 refusal_code NoIndex = 5
 
+-- a text is malformed
 abbrev pub misspelled : Reply
 misspelled = said 6
 
+-- memory ran out
 abbrev pub out_of_memory : Reply
 out_of_memory = said 7
 
+-- there is no such call, or it can't be made now
 abbrev pub misused : Reply
 misused = said 8
 
+-- why a text isn't opened; the line that is refused, if one is
 abbrev pub of_open : OpenError → Reply
 of_open (open_error.Syntax line) = at_line 6 line
 of_open (open_error.Limit line) = at_line 4 line
 of_open open_error.Memory = out_of_memory
 
+-- why a query isn't answered
 abbrev pub of_query : QueryError → Reply
 of_query (query_error.Refused r) = said (refusal_code r)
 of_query query_error.Syntax = misspelled
@@ -74,6 +80,7 @@ of_why (Ok true) count = counted count
 of_why (Ok false) count = counted 0
 of_why (Err error) count = of_query error
 
+-- 1 where the walk shows it, 0 where it doesn't
 abbrev pub of_check : Result Bool QueryError → Reply
 of_check (Ok true) = counted 1
 of_check (Ok false) = counted 0
@@ -84,10 +91,12 @@ abbrev pub of_list : {X : Type 0} → Result X QueryError → ℕ → Reply
 of_list (Ok x) count = counted count
 of_list (Err error) count = of_query error
 
+-- of a text of so many bytes, for which only memory can run out
 abbrev pub of_sizes : {X : Type 0} → Result X Memory → ℕ → Reply
 of_sizes (Ok x) count = counted count
 of_sizes (Err error) count = out_of_memory
 
+-- carried out, or why it is refused
 abbrev pub of_forget : {X : Type 0} → Result X Refusal → Reply
 of_forget (Ok x) = said 0
 of_forget (Err r) = said (refusal_code r)

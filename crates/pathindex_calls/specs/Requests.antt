@@ -56,18 +56,23 @@ abbrev forgets : Option Kind → Option Request
 forgets None = None
 forgets (Some k) = Some (Ask (Forget k))
 
+-- a session is opened with the indexes of these numbers
 abbrev pub open_at : ℕ → ℕ → Option Request
 open_at k flags = opens (indexes_at k flags)
 
+-- a path expression is asked through what the number names
 abbrev pub path_at : ℕ → Option Request
 path_at n = asks_via (λ v. Path v) (via_at n)
 
+-- a branching query is asked through what the number names
 abbrev pub branch_at : ℕ → Option Request
 branch_at n = asks_via (λ v. Branch v) (via_at n)
 
+-- the blocks of what the number names are listed
 abbrev pub extents_at : ℕ → Option Request
 extents_at n = asks_via (λ v. Extents v) (via_at n)
 
+-- the index whose kind the number names is forgotten
 abbrev pub forget_at : ℕ → Option Request
 forget_at n = forgets (kind_at n)
 

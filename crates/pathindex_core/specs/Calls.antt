@@ -106,6 +106,6 @@ pub record IsViewIn (e : EngineSeen) (via : Via) (v : View) : Type 0 where
   -- two nodes have the same block exactly where the index relates them
   pub shows : ShowsIndex (graph_in e.opened) (kept_in e) via (together v.block_of)
 
--- the index isn't kept, or it is the forward and backward index and its view isn't computed
+-- it is the graph itself, or an index that isn't kept, or it is the forward and backward index and its view isn't computed
 abbrev pub LacksView : EngineSeen → Via → Type 0
 LacksView e via = (is_kept (kept_in e) via ≡ false) ⊎ ((via ≡ Fb) × (¬ IsFbComputed e.boxes))

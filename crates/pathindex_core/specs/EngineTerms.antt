@@ -12,13 +12,15 @@ use Rattle.pathindex_core.specs.Boxes.{via_view}
 use Rattle.pathindex_core.specs.Engines.{Opened, EngineOf, EngineSeen, graph_in}
 use Rattle.pathindex_core.specs.Updates.{outcome_in}
 
+-- the engine isn't open
 abbrev pub IsUnopened : {B : Type 0} → EngineOf B → Type 0
 IsUnopened e = e.opened ≡ None
 
+-- it is open
 abbrev pub IsOpened : {B : Type 0} → EngineOf B → Type 0
 IsOpened e = IsSome e.opened
 
--- with this graph, these limits, and this highest level of the A(k)-family
+-- it is open with this graph, these limits, and this highest level of the families
 abbrev pub IsOpenedWith : {B : Type 0} → EngineOf B → Graph → Limits → ℕ → Type 0
 IsOpenedWith e g limits k = e.opened ≡ Some (record { graph = g; limits = limits; k = k })
 
@@ -34,7 +36,7 @@ engine_graph e = graph_in e.opened
 abbrev pub engine_kinds : {B : Type 0} → (B → Meaning) → EngineOf B → List Kind
 engine_kinds meaning e = kinds_of (map meaning e.boxes)
 
--- the engine has a view for what a query is asked through
+-- the index is kept, and its view is computed
 abbrev pub HasView : {B : Type 0} → (B → Meaning) → EngineOf B → Via → Type 0
 HasView meaning e via = IsSome (via_view (map meaning e.boxes) via)
 
@@ -44,14 +46,18 @@ engine_outcome c e = outcome_in c e.opened
 
 -- ---- of an engine by what its indexes mean
 
+-- it is open
 abbrev pub IsSeenOpened : EngineSeen → Type 0
 IsSeenOpened e = IsSome e.opened
 
+-- this is what is open
 abbrev pub IsSeenOpenedAs : EngineSeen → Opened → Type 0
 IsSeenOpenedAs e o = e.opened ≡ Some o
 
+-- its graph
 abbrev pub seen_graph : EngineSeen → Graph
 seen_graph e = graph_in e.opened
 
+-- the graph once a change is made, or why it is refused
 abbrev pub seen_outcome : List Step → EngineSeen → Result Graph Refusal
 seen_outcome c e = outcome_in c e.opened

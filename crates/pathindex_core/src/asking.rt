@@ -12,7 +12,7 @@ ghost use Rattle.index_api.specs.IndexKinds.{is_kept, kept_of};
 ghost use Rattle.branch_query.specs.Queries.{query_of, AreQueryAnswers};
 ghost use Rattle.index_eval.specs.Exactness.{FitsVia, IsExact};
 ghost use Rattle.extent_report.specs.Summaries.{LabelsHaveTexts};
-ghost use Rattle.pathindex_core.specs.Engines.{EachBecomes, IsKeptFor, open_seen, opened};
+ghost use Rattle.pathindex_core.specs.Engines.{EachBecomes, IsKeptFor, open_seen, opened_by};
 ghost use Rattle.pathindex_core.specs.QueryAnswers.{IsFoundBy, IsAnswered, IsQueried};
 ghost use Rattle.pathindex_core.specs.Boxes.{IsFbComputed};
 
@@ -91,7 +91,7 @@ fn ask_index<B: PathIndex, L: Ledger>(
     query: &Query<'_>,
     steps: &mut Steps<L>,
 ) -> Result<Answer, AskError>
-    requires kept { All (IsKeptFor (opened state.now)) (map B.meaning boxes.now.items) }
+    requires kept { All (IsKeptFor (opened_by state.now)) (map B.meaning boxes.now.items) }
     requires computed { via ≡ Fb → IsFbComputed (map B.meaning boxes.now.items) }
     requires index { via ≢ Data }
     ensures answered { IfOk result (λ answer. IsAnswered state.now.graph.graph (kept_of (map B.meaning boxes.now.items) state.now.k) via
@@ -117,9 +117,9 @@ fn ask_kept<B: PathIndex, L: Ledger>(
     query: &Query<'_>,
     steps: &mut Steps<L>,
 ) -> Result<Answer, AskError>
-    requires kept { All (IsKeptFor (opened state.now)) (map B.meaning boxes.old.items) }
+    requires kept { All (IsKeptFor (opened_by state.now)) (map B.meaning boxes.old.items) }
     requires index { via ≢ Data }
-    ensures kept { All (IsKeptFor (opened state.now)) (map B.meaning boxes.new.items) }
+    ensures kept { All (IsKeptFor (opened_by state.now)) (map B.meaning boxes.new.items) }
     ensures keeps { EachBecomes KeepsViews (map B.meaning boxes.old.items) (map B.meaning boxes.new.items) }
     ensures queried { IsQueried (open_seen (map B.meaning boxes.old.items) state.now) (open_seen (map B.meaning boxes.new.items) state.now) via
         (query_of query.now) result steps.old steps.new }
@@ -139,8 +139,8 @@ pub(crate) fn ask<B: PathIndex, L: Ledger>(
     query: &Query<'_>,
     steps: &mut Steps<L>,
 ) -> Result<Answer, AskError>
-    requires kept { All (IsKeptFor (opened state.now)) (map B.meaning boxes.old.items) }
-    ensures kept { All (IsKeptFor (opened state.now)) (map B.meaning boxes.new.items) }
+    requires kept { All (IsKeptFor (opened_by state.now)) (map B.meaning boxes.old.items) }
+    ensures kept { All (IsKeptFor (opened_by state.now)) (map B.meaning boxes.new.items) }
     ensures keeps { EachBecomes KeepsViews (map B.meaning boxes.old.items) (map B.meaning boxes.new.items) }
     ensures queried { IsQueried (open_seen (map B.meaning boxes.old.items) state.now) (open_seen (map B.meaning boxes.new.items) state.now) via
         (query_of query.now) result steps.old steps.new }

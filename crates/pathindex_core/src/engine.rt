@@ -33,8 +33,7 @@ use std::marker::{Brand, Model};
 use std::sync::ledger::{Blank, Ledger};
 
 /// A graph, and the indexes that are kept of it: at most one of each kind, each in a box, or each of one type B that is
-/// a `PathIndex`. An engine is opened with a graph, of which each index is then built, and from there on changes go
-/// through the engine.
+/// a `PathIndex`. `open` gives it a graph and builds each index; after that, changes go through the engine.
 ///
 /// Clauses see the indexes themselves and what the engine is opened with (`EngineOf`); by what the indexes mean it is
 /// `by_meaning B.meaning engine` (`EngineSeen`). What a call makes of it is a record in `specs/Calls.antt` or
@@ -92,8 +91,8 @@ impl<B: PathIndex> Engine<B> {
         Engine { boxes, state: None }
     }
 
-    /// Opens the engine with a graph, limits on what changes may make of it, and the highest level of the A(k)-family,
-    /// and builds each index. Where memory runs out, the graph is dropped, and the engine isn't open.
+    /// Opens the engine with a graph, limits on what changes may make of it, and the highest level of the families, and
+    /// builds each index. Where memory runs out, the graph is dropped, and the engine isn't open.
     ///
     /// O(n + m) for n node numbers and m edges, and what the build of each box takes. With all indexes of this library
     /// that is expected O((k + r) (n + m log d)) in all, where a node has at most d neighbours on a side, and the
@@ -124,7 +123,7 @@ impl<B: PathIndex> Engine<B> {
         }
     }
 
-    /// The highest level of the A(k)-family: at most 8. O(1), no memory.
+    /// The highest level of the families. O(1), no memory.
     pub fn level(&self) -> u32
         requires open { IsSome self.now.opened }
         ensures { result ≡ level_in self.now.opened }
@@ -144,8 +143,8 @@ impl<B: PathIndex> Engine<B> {
     /// O(i) for i indexes, and what the change takes in the graph and `prepare` and `commit` in each index. How much
     /// that is depends on what the change reaches, and not on the size of the graph, except where a table moves as it
     /// grows, keys are dropped, a view of the forward and backward index goes, or the parentless blocks are
-    /// searched for again, which passes over the blocks of the 1-index: `AkIndex`, `OneKept` and `FbIndex` say how much
-    /// time and memory that takes.
+    /// searched for again, which passes over the blocks of the 1-index: `AkIndex`, `FbkIndex`, `OneKept` and `FbIndex` say
+    /// how much time and memory that takes.
     pub fn update(&mut self, alloc: Global, change: Change) -> Result<Applied, UpdateError>
         requires open { IsSome self.old.opened }
         requires sound { IsSound (by_meaning B.meaning self.old) }
@@ -232,8 +231,8 @@ impl<B: PathIndex> Engine<B> {
         self.ask(alloc, via, &Query::Path(expr), steps)
     }
 
-    /// `ask` of a branching query. The forward and backward index alone is exact for it; through another one the
-    /// candidates of its relaxed form are looked up in the graph.
+    /// `ask` of a branching query. The forward and backward index is exact for it, and so is B(i) if it looks at most i
+    /// edges away (`Branch::depth`). Through any other index the candidates of its relaxed form are checked in the graph.
     ///
     /// O(m (n + e)) for m tokens, as for `path`; it takes O((d + 1) n + s) memory where brackets nest d deep, parentheses
     /// counted; through an index that isn't exact, O((d + 1) s).

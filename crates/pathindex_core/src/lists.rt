@@ -5,7 +5,7 @@ ghost use Rattle.index_api.specs.declared.kinds.Via.TheVariants.{Fb};
 ghost use Rattle.index_api.specs.Meanings.{KeepsViews};
 ghost use Rattle.index_api.specs.IndexKinds.{is_kept, kept_of};
 ghost use Rattle.extent_report.specs.PrintedLists.{ListsIndex, ListsSizes, ShowsSize};
-ghost use Rattle.pathindex_core.specs.Engines.{EachBecomes, IsKeptFor, opened, open_seen};
+ghost use Rattle.pathindex_core.specs.Engines.{EachBecomes, IsKeptFor, opened_by, open_seen};
 ghost use Rattle.pathindex_core.specs.Boxes.{IsFbComputed};
 ghost use Rattle.pathindex_core.specs.Calls.{IsListed, IsMeasured};
 
@@ -25,7 +25,7 @@ fn text_of<B: PathIndex>(
     state: &Open,
     via: Via,
 ) -> Result<Text, AskError>
-    requires kept { All (IsKeptFor (opened state.now)) (map B.meaning boxes.now.items) }
+    requires kept { All (IsKeptFor (opened_by state.now)) (map B.meaning boxes.now.items) }
     requires computed { via ≡ Fb → IsFbComputed (map B.meaning boxes.now.items) }
     ensures text { IfOk result (ListsIndex state.now.graph.graph (kept_of (map B.meaning boxes.now.items) state.now.k) via) }
     ensures no_index { (result ≡ Err AskError.NoIndex) ↔ (is_kept (kept_of (map B.meaning boxes.now.items) state.now.k) via ≡ false) }
@@ -47,8 +47,8 @@ pub(crate) fn list<B: PathIndex, L: Ledger>(
     via: Via,
     steps: &mut Steps<L>,
 ) -> Result<Text, AskError>
-    requires kept { All (IsKeptFor (opened state.now)) (map B.meaning boxes.old.items) }
-    ensures kept { All (IsKeptFor (opened state.now)) (map B.meaning boxes.new.items) }
+    requires kept { All (IsKeptFor (opened_by state.now)) (map B.meaning boxes.old.items) }
+    ensures kept { All (IsKeptFor (opened_by state.now)) (map B.meaning boxes.new.items) }
     ensures keeps { EachBecomes KeepsViews (map B.meaning boxes.old.items) (map B.meaning boxes.new.items) }
     ensures listed { IsListed (open_seen (map B.meaning boxes.old.items) state.now) (open_seen (map B.meaning boxes.new.items) state.now) via
         result steps.old steps.new }
@@ -67,7 +67,7 @@ fn push_size<B: PathIndex>(
     state: &Open,
     via: Via,
 ) -> Result<(), Memory>
-    requires kept { All (IsKeptFor (opened state.now)) (map B.meaning boxes.now.items) }
+    requires kept { All (IsKeptFor (opened_by state.now)) (map B.meaning boxes.now.items) }
     requires computed { IsFbComputed (map B.meaning boxes.now.items) }
     requires graph { IsGraph state.now.graph.graph }
     ensures { OnOk result ((line : List ℕ)
@@ -86,7 +86,7 @@ fn push_size<B: PathIndex>(
 
 /// The sizes; the forward and backward index is computed if it is kept.
 fn sizes_of<B: PathIndex>(alloc: Global, boxes: &Vec<B>, state: &Open) -> Result<Text, Memory>
-    requires kept { All (IsKeptFor (opened state.now)) (map B.meaning boxes.now.items) }
+    requires kept { All (IsKeptFor (opened_by state.now)) (map B.meaning boxes.now.items) }
     requires computed { IsFbComputed (map B.meaning boxes.now.items) }
     requires level { state.now.k ≤ 8 }
     ensures { IfOk result (ListsSizes state.now.graph.graph (kept_of (map B.meaning boxes.now.items) state.now.k)) }
@@ -108,9 +108,9 @@ pub(crate) fn measure<B: PathIndex, L: Ledger>(
     state: &Open,
     steps: &mut Steps<L>,
 ) -> Result<Text, Memory>
-    requires kept { All (IsKeptFor (opened state.now)) (map B.meaning boxes.old.items) }
+    requires kept { All (IsKeptFor (opened_by state.now)) (map B.meaning boxes.old.items) }
     requires level { state.now.k ≤ 8 }
-    ensures kept { All (IsKeptFor (opened state.now)) (map B.meaning boxes.new.items) }
+    ensures kept { All (IsKeptFor (opened_by state.now)) (map B.meaning boxes.new.items) }
     ensures keeps { EachBecomes KeepsViews (map B.meaning boxes.old.items) (map B.meaning boxes.new.items) }
     ensures measured { IsMeasured (open_seen (map B.meaning boxes.old.items) state.now) (open_seen (map B.meaning boxes.new.items) state.now)
         result steps.old steps.new }

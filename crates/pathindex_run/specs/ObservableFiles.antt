@@ -15,6 +15,7 @@ abbrev pub BeginsNamed : Option (List ℕ) → List File → Graph → Names →
 BeginsNamed None files g n = (g ≡ empty_graph) × AreSameNames n no_names
 BeginsNamed (Some name) files g n = (text : List ℕ) × (content_of files name ≡ Some text) × LoadsNamed program_limits text g n
 
+-- the same on an observable shelf; of any other nothing is said
 abbrev pub BeginsObservable : Option (List ℕ) → Option (List File) → Graph → Names → Type 0
 BeginsObservable name None g n = ⊤
 BeginsObservable name (Some files) g n = BeginsNamed name files g n

@@ -3,6 +3,7 @@ use Rattle.std.specs.Prelude.{ℕ}
 use Rattle.pathindex_run.specs.declared.status.Status.{Status}
 use Rattle.pathindex_run.specs.declared.status.Status.TheVariants.{Done, Refused, Usage, FileLine, BadLine, NoFile, NoOutput, NoMemory, Differs}
 
+-- the number of the status
 abbrev pub code_of : Status → ℕ
 code_of Done = 0
 code_of Refused = 1

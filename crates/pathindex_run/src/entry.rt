@@ -28,7 +28,7 @@ use script_interpreter::{Printing, Stop, run_lines};
 use std::alloc::Global;
 use triple_names::Names;
 
-/// Carries out what the words ask for, and answers the exit status. The words are those after the
+/// Carries out what the words ask for, and returns the exit status. The words are those after the
 /// program's name: `SCRIPT [--graph FILE] [--k N] [--without-one] [--without-fb] [--with-bk]`, `--make SEED`, or `--check FILE`.
 ///
 /// The graph file, if one is named, is loaded first; it is RDF 1.1 N-Triples. The engine drops the indexes that a
@@ -39,8 +39,8 @@ use triple_names::Names;
 /// all its indexes but the bounded forward and backward ones, k is 2, and the shelf isn't called. Changes that are accepted and indexes
 /// that are forgotten print nothing then, and an answer prints its first line only.
 ///
-/// To check a file, the engine drops all its indexes and stays closed. The index file is read, and each of its views is
-/// compared with the graph that it holds.
+/// To check a file, the engine drops all its indexes. The index file is read, and each of its views is compared with
+/// the graph that it holds.
 ///
 /// | Status | When |
 /// |---|---|

@@ -10,6 +10,7 @@ use Rattle.any_index.specs.declared.any.AnyIndex.{AnyIndex}
 use Rattle.any_index.specs.contracts.any.AnyIndex.{the_row as index_row}
 use Rattle.any_index.specs.AnyMeanings.{meaning_of}
 
+-- a session as its callers see it
 pub record SessionOf : Type 0 where
   -- the engine, with its graph and its indexes
   pub engine : EngineOf AnyIndex
@@ -22,6 +23,7 @@ pub record SessionOf : Type 0 where
   -- the list of blocks or of sizes, or the index file, that was made last
   pub text : List ℕ
 
+-- the code of a session is that of its parts
 abbrev pub session_code : Coded SessionOf
 session_code =
     code_by (EngineOf AnyIndex × (ReservedNames × (List ℕ × (List ℕ × List ℕ))))

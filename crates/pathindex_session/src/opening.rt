@@ -23,7 +23,7 @@ use triple_names::Names;
 /// Which indexes a session keeps, beside the A(k)-indexes.
 #[derive(Clone, Copy, Debug, PartialEq, Eq, Drop)]
 pub struct Indexes {
-    /// The highest level of the A(k)-indexes.
+    /// The highest level of the families.
     pub k: u32,
     /// Whether the 1-index is kept.
     pub one: bool,

@@ -17,5 +17,6 @@ ShowsText text own old new status =
 abbrev pub graph_line : ℕ → List ℕ → List ℕ
 graph_line n reason = codes "graph " ++ decimal n ++ 32 ∷ (reason ++ 10 ∷ [])
 
+-- the usage line
 abbrev pub usage_line : List ℕ
 usage_line = codes "usage: pathindex_dot GRAPH [--graph-of data|aK|one|fb|bK] [--blocks N] [--members N]" ++ 10 ∷ []

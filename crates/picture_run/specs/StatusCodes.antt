@@ -3,6 +3,7 @@ use Rattle.std.specs.Prelude.{ℕ}
 use Rattle.picture_run.specs.declared.status.Status.{Status}
 use Rattle.picture_run.specs.declared.status.Status.TheVariants.{Done, Usage, FileLine, NoFile, NoOutput, NoMemory}
 
+-- the number of the status
 abbrev pub code_of : Status → ℕ
 code_of Done = 0
 code_of Usage = 2

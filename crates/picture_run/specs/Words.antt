@@ -30,6 +30,7 @@ arguments_in rows = record {
 abbrev pub read : List (List ℕ) → Option Arguments
 read = read_by command arguments_in
 
+-- the settings that the arguments give; none where clap takes none
 abbrev pub settings_read : Option Arguments → Option Settings
 settings_read None = None
 settings_read (Some g) = arguments_settings g

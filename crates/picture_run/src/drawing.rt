@@ -258,7 +258,7 @@ fn run_words<B: PathIndex, H: Shelf, K: Sink>(
     }
 }
 
-/// Writes the picture that the words ask for, and answers the exit status. The words are those after the program's name: `GRAPH
+/// Writes the picture that the words ask for, and returns the exit status. The words are those after the program's name: `GRAPH
 /// [--graph-of VIA] [--blocks N] [--members N]`. VIA is `data`, the graph itself, or an index: `a0` to `a8`, `one`, `fb`, `b0` to `b8`, and
 /// `a1` if none is named. At most N blocks are drawn, 1 to 200 and 20 if no number is given; at most N nodes of each are named, 1 to
 /// 50 and 3 if no number is given.

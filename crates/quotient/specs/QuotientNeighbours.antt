@@ -13,6 +13,7 @@ use Rattle.bisim_spec.specs.IndexGraphs.{SupportTable, support_at}
 abbrev pub list_at : List (List ℕ) → ℕ → List ℕ
 list_at lists n = slice_index_or lists n []
 
+-- whether a has support to b
 abbrev pub is_supported : SupportTable → ℕ → ℕ → Bool
 is_supported t a b = nat_lt 0 (support_at t a b)
 
@@ -27,6 +28,7 @@ pub record AreNeighbourLists (t : SupportTable) (children parents : List (List �
 abbrev pub with_one_more : SupportTable → ℕ → ℕ → SupportTable
 with_one_more t a b = table.insert t (a, b) (support_at t a b + 1)
 
+-- 1 if it is so, and else 0
 abbrev pub one_if : Bool → ℕ
 one_if b = cond b 1 0
 

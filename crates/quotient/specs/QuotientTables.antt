@@ -14,6 +14,7 @@ pub record KeptPairs : Type 0 where
   -- how many more pairs fit with no more memory
   pub reserved : ℕ
 
+-- the code of kept pairs is that of their parts
 abbrev pub pairs_code : Coded KeptPairs
 pairs_code =
     code_by (SupportTable × ℕ)

@@ -20,6 +20,7 @@ pub record ReservedPairs : Type 0 where
   pub children : List ℕ
   pub parents : List ℕ
 
+-- a partition, with the supports of its blocks and the capacity reserved
 pub record Quotient : Type 0 where
   -- the partition, with a label for each block
   pub blocks : Partition
@@ -28,6 +29,7 @@ pub record Quotient : Type 0 where
   -- for how many more pairs there is capacity
   pub reserved : ReservedPairs
 
+-- no capacity is reserved
 abbrev pub no_reserved_pairs : ReservedPairs
 no_reserved_pairs = record { span = 0; pairs = 0; children = []; parents = [] }
 

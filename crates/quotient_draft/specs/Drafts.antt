@@ -9,6 +9,7 @@ use Rattle.block_partition.specs.LabelledPartitions.{put}
 use Rattle.bisim_spec.specs.IndexGraphs.{View, SupportTable, support_at}
 use Rattle.quotient.specs.Quotients.{Quotient, with_put, with_support}
 
+-- what is drafted over a quotient
 pub record Drafted : Type 0 where
   -- the number and the label of each further block, in the order in which they were made
   pub added : List (ℕ × ℕ)
@@ -25,6 +26,7 @@ pub record Drafted : Type 0 where
 abbrev DraftParts : Type 0
 DraftParts = List (ℕ × ℕ) × (List (ℕ × Option ℕ) × (List ℕ × (List (ℕ × ℕ) × List ((ℕ × ℕ) × ℕ))))
 
+-- the code of a draft is that of its lists
 abbrev pub drafted_code : Coded Drafted
 drafted_code =
     code_by DraftParts
@@ -35,6 +37,7 @@ drafted_code =
     (λ p. record { added = p.0; moves = p.1.0; left = p.1.1.0; taken = p.1.1.1.0; supports = p.1.1.1.1 })
     (λ _. refl)
 
+-- nothing is drafted
 abbrev pub no_changes : Drafted
 no_changes = record { added = []; moves = []; left = []; taken = []; supports = [] }
 
@@ -61,6 +64,7 @@ shown_labels q d = with_added q.blocks.labels d.added
 abbrev pub shown_blocks : Quotient → Drafted → List (Option ℕ)
 shown_blocks q d = with_moves q.blocks.block_of d.moves
 
+-- the supports as shown
 abbrev pub shown_supports : Quotient → Drafted → SupportTable
 shown_supports q d = with_supports q.supports d.supports
 
@@ -97,6 +101,7 @@ abbrev pub with_left : List ℕ → Option ℕ → List ℕ
 with_left left None = left
 with_left left (Some b) = left ++ b ∷ []
 
+-- whether the block has a member
 abbrev pub has_member : List (Option ℕ) → ℕ → Bool
 has_member block b = list_any (is_this b) block
 

@@ -4,6 +4,7 @@ use Rattle.std.specs.Map.{lookup}
 use Rattle.graph_spec.specs.Members.{at, is_this}
 use Rattle.quotient_draft.specs.Drafts.{with_moves}
 
+-- the moves of nodes, with the blocks that they left
 pub record KeptMoves : Type 0 where
   -- for each node that is moved the block where it goes, none where it goes to none
   pub moves : List (ℕ × Option ℕ)

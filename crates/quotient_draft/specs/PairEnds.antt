@@ -6,10 +6,11 @@ use Rattle.std.specs.Map.{lookup}
 use Rattle.smallvec.specs.SmallVec.{SmallVec}
 use Rattle.quotient_draft.specs.Drafts.{is_pair}
 
--- the ends of the pairs that begin at a, and the beginnings of the pairs that end at b
+-- the ends of the pairs that begin at a
 abbrev pub ends_from : List (ℕ × ℕ) → ℕ → List ℕ
 ends_from pairs a = filter_map (λ p. cond (nat_eq a p.0) (Some p.1) None) pairs
 
+-- the beginnings of the pairs that end at b
 abbrev pub ends_onto : List (ℕ × ℕ) → ℕ → List ℕ
 ends_onto pairs b = filter_map (λ p. cond (nat_eq b p.1) (Some p.0) None) pairs
 

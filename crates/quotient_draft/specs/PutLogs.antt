@@ -41,6 +41,7 @@ pub record AreMoves (moves : List (ℕ × Option ℕ)) (into taken : List (ℕ �
   -- each node that goes into a block was put into it
   pub put : (n b : ℕ) → lookup (nat_eq n) moves ≡ Some (Some b) → has_put puts n b ≡ true
 
+-- whether there is a move, and it goes to the block
 abbrev pub is_target : ℕ → Option (Option ℕ) → Bool
 is_target b None = false
 is_target b (Some v) = is_this b v

@@ -4,10 +4,11 @@ use Rattle.std.specs.Map.{lookup, keys_of}
 use Rattle.quotient.specs.Quotients.{Quotient}
 use Rattle.quotient_draft.specs.Drafts.{Drafted}
 
--- how many of the pairs begin at a block, and how many end there
+-- how many of the pairs begin at a block
 abbrev pub from_count : List (ℕ × ℕ) → ℕ → ℕ
 from_count pairs a = count_by (λ p. nat_eq a p.0) pairs
 
+-- how many of the pairs end at a block
 abbrev pub onto_count : List (ℕ × ℕ) → ℕ → ℕ
 onto_count pairs b = count_by (λ p. nat_eq b p.1) pairs
 

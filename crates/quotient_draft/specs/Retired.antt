@@ -6,8 +6,9 @@ use Rattle.quotient_draft.specs.Drafts.{has_member}
 
 -- the blocks among these that have no members are taken away, and all else is as it was
 pub record IsRetired (among : List ℕ) (old new : Quotient) : Type 0 where
-  -- nodes and supports are as they were
+  -- each node is in the block where it was
   pub block_of : new.blocks.block_of ≡ old.blocks.block_of
+  -- supports are as they were
   pub supports : new.supports ≡ old.supports
   -- so is the number of places for labels
   pub len : length new.blocks.labels ≡ length old.blocks.labels

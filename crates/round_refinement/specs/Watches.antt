@@ -15,6 +15,7 @@ abbrev pub side_in_key : Side → ℕ
 side_in_key Parents = 0
 side_in_key Children = 1
 
+-- the key of a place: its node, the side and the block
 abbrev pub place_key : ℕ → Side → ℕ → List ℕ
 place_key n side b = n ∷ side_in_key side ∷ b ∷ []
 

@@ -275,10 +275,11 @@ fn copy(alloc: Global, block: &[Option<u32>]) -> Result<Vec<Option<u32>>, Memory
 ///
 /// The first levels are made of all nodes, until one adds few blocks, and the first round parts all nodes by one level more. Later a round
 /// parts the neighbours of nodes that went to another block, unless these are alone in theirs, and with them their whole block if more of it
-/// are active than not. Before a round nodes of one block had neighbours in the same blocks, so it is enough to compare to which blocks
-/// neighbours came, and which blocks all of them left. The largest part of a block whose members are all active keeps its number, so nodes go
-/// to another block O(n log n) times together (J. Hopcroft, 1971), and an edge is read O(log n) times. Expected O(n + m log m) for n node
-/// numbers and m edges, beside sorts of the active nodes and of the numbers in their keys; with these at most O(n + m log² m).
+/// are active than not, and it has at least an eighth as many members, rounded down, as there are nodes on its list. Before a round nodes of
+/// one block had neighbours in the same blocks, so it is enough to compare to which blocks neighbours came, and which blocks all of them left.
+/// The largest part of a block whose members are all active keeps its number, so nodes go to another block O(n log n) times together (J.
+/// Hopcroft, 1971), and an edge is read O(log n) times. Expected O(n + m log m) for n node numbers and m edges, beside sorts of the active
+/// nodes and of the numbers in their keys; with these at most O(n + m log² m).
 ///
 /// The first levels take 24 bytes a number, and a table of keys. Then it takes 16 bytes a number, 12 for each block, 20 for each number and for
 /// each time that a node goes to another block, and in a round 28 bytes for each neighbour of those that went to another block, and 32 and

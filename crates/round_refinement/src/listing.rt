@@ -83,7 +83,7 @@ fn push_members(
     Ok(())
 }
 
-// Puts all nodes of the block behind the others, if more of them are active than not.
+// Puts all nodes of the block behind the others, if `takes_rest` says so.
 fn push_rest(
     all: &mut Vec<u32>,
     lists: &HashIndex<u32>,
@@ -100,7 +100,7 @@ fn push_rest(
     }
 }
 
-/// The active nodes, and with them all nodes of those blocks of which more are active than not.
+/// The active nodes, and with them all nodes of those blocks for which `Sizes::takes_rest` says so.
 pub(crate) fn with_rest(
     alloc: Global,
     lists: &HashIndex<u32>,

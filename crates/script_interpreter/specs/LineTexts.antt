@@ -13,9 +13,11 @@ use Rattle.script_interpreter.specs.declared.group.Scope.TheVariants.{Line, Grou
 use Rattle.script_interpreter.specs.declared.printing.Printing.{Printing}
 use Rattle.script_interpreter.specs.Rules.{if_whole}
 
+-- that it is refused, and why
 abbrev pub refused_line : Refusal → List ℕ
 refused_line r = codes "refused " ++ word_of r ++ 10 ∷ []
 
+-- that it is carried out
 abbrev pub ok_line : List ℕ
 ok_line = codes "ok" ++ 10 ∷ []
 
@@ -38,15 +40,18 @@ abbrev pub reply : Printing → Scope → List Step → Graph → Result Graph R
 reply printing scope c g (Ok h) = if_whole printing (made_lines scope (applied_of c g))
 reply printing scope c g (Err r) = refused_line r
 
+-- that the line of this number is bad
 abbrev pub bad_line : ℕ → List ℕ
 bad_line n = codes "bad " ++ decimal n ++ 10 ∷ []
 
--- that a node answers nothing, and whether nodes show why one answers
+-- that a node doesn't answer
 abbrev pub none_line : List ℕ
 none_line = codes "none" ++ 10 ∷ []
 
+-- that nodes show why one answers
 abbrev pub yes_line : List ℕ
 yes_line = codes "yes" ++ 10 ∷ []
 
+-- that nodes don't show why one answers
 abbrev pub no_line : List ℕ
 no_line = codes "no" ++ 10 ∷ []

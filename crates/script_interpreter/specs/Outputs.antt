@@ -2,6 +2,7 @@
 use Rattle.std.specs.Prelude.{ℕ, Bool, ◌||◌, List, ◌++◌}
 use Rattle.script_interpreter.specs.declared.printing.Printing.{Printing}
 
+-- what is gathered of the output so far
 pub record Gathered : Type 0 where
   -- how much is printed
   pub printing : Printing

@@ -127,6 +127,7 @@ pub record Progress : Type 0 where
   pub lines : ℕ
   pub bytes : ℕ
 
+-- before the first line
 abbrev pub start : State → Progress
 start s = record { state = s; group = None; refused = false; lines = 0; bytes = 0 }
 
@@ -176,6 +177,7 @@ abbrev pub text_at_end : Option Group → List ℕ
 text_at_end None = []
 text_at_end (Some g) = bad_line g.line
 
+-- what the end of the script prints after these lines
 abbrev pub end_text : Progress → List ℕ
 end_text p = text_at_end p.group
 

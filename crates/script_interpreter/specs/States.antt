@@ -14,7 +14,7 @@ use Rattle.triple_names.specs.Names.{Names, AreSameNames}
 pub record State : Type 0 where
   -- the graph as it is now
   pub graph : Graph
-  -- the indexes that are kept: their kinds, the highest level of the A(k)-family, and the blocks of the 1-index
+  -- the indexes that are kept: their kinds, the highest level of the families, and the blocks of the 1-index
   pub kept : KeptIndexes
   -- the numbers of the nodes of terms and triples, by which triples are inserted and deleted
   pub names : Names

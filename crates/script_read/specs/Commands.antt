@@ -17,6 +17,7 @@ use Rattle.index_api.specs.declared.kinds.Via.TheVariants.{Data, A, One, Fb, B}
 use Rattle.index_api.specs.Spelling.{via_word, kind_word}
 use Rattle.script_read.specs.FirstWords.{first_word, behind_word, expression_text}
 
+-- what a line of a script asks for
 pub data Command : Type 0 where
   -- a step of a change of the graph
   change : Step → Command
@@ -89,9 +90,11 @@ IsVia (B level) = IsIndex (B level)
 abbrev pub AsksWith : List ℕ → List ℕ → Via → Type 0
 AsksWith word line via = (first_word line ≡ word) × (first_word (behind_word line) ≡ via_word via) × IsVia via
 
+-- the first words are `path` and through what it is asked
 abbrev pub AsksPath : List ℕ → Via → Type 0
 AsksPath line via = AsksWith (codes "path") line via
 
+-- the first words are `branch` and through what it is asked
 abbrev pub AsksBranch : List ℕ → Via → Type 0
 AsksBranch line via = AsksWith (codes "branch") line via
 
@@ -111,16 +114,19 @@ SpellsNodes word nodes = (parts word ≡ map node_word nodes) × AllByRecursion 
 abbrev pub AsksCheck : List ℕ → List ℕ → Type 0
 AsksCheck line nodes = (first_word line ≡ codes "check") × SpellsNodes (first_word (behind_word line)) nodes
 
--- the same, and what follows them, without the blanks at both ends, spells the expression
+-- it asks with `path`, and what follows, without the blanks at both ends, spells the expression
 abbrev pub SpellsPath : List ℕ → Via → Expr → Type 0
 SpellsPath line via e = AsksPath line via × Spells (expression_text line) e
 
+-- it asks with `branch`, and what follows, without the blanks at both ends, spells the query
 abbrev pub SpellsBranch : List ℕ → Via → Branch → Type 0
 SpellsBranch line via q = AsksBranch line via × SpellsQuery (expression_text line) q
 
+-- it asks with `why`, and what follows, without the blanks at both ends, spells the expression
 abbrev pub SpellsWhy : List ℕ → ℕ → Expr → Type 0
 SpellsWhy line v e = AsksWhy line v × Spells (expression_text line) e
 
+-- it asks with `check`, and what follows, without the blanks at both ends, spells the expression
 abbrev pub SpellsCheck : List ℕ → List ℕ → Expr → Type 0
 SpellsCheck line nodes e = AsksCheck line nodes × Spells (expression_text line) e
 
@@ -135,9 +141,11 @@ pub data Asks (line : List ℕ) : Type 0 where
 abbrev pub PassesLimit : Limits → List ℕ → Type 0
 PassesLimit limits line = Asks line × IsTrue (is_past limits (expression_text line))
 
+-- the words are `extents` and an index
 abbrev pub SpellsExtents : List ℕ → Via → Type 0
 SpellsExtents line via = (words line ≡ codes "extents" ∷ via_word via ∷ []) × IsIndex via
 
+-- the words are `forget` and a kind of index
 abbrev pub SpellsForget : List ℕ → Kind → Type 0
 SpellsForget line kind = words line ≡ codes "forget" ∷ kind_word kind ∷ []
 

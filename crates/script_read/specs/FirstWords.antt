@@ -19,6 +19,7 @@ without_blanks text = before_blanks (after_blanks text)
 abbrev pub first_word : List ℕ → List ℕ
 first_word line = take (position_or_len is_blank (after_blanks line)) (after_blanks line)
 
+-- what follows the first word
 abbrev pub behind_word : List ℕ → List ℕ
 behind_word line = drop (position_or_len is_blank (after_blanks line)) (after_blanks line)
 

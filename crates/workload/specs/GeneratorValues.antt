@@ -6,10 +6,12 @@ use Rattle.workload.specs.declared.triples.Object.{Object}
 use Rattle.workload.specs.declared.triples.Object.TheVariants.{Node, Value}
 use Rattle.workload.specs.declared.triples.Triple.{Triple}
 
+-- the term of an object
 abbrev pub object_value : Object → List ℕ
 object_value (Node n) = node_term n
 object_value (Value n) = value_term n
 
+-- the line of a triple
 abbrev pub line_value : Triple → List ℕ
 line_value t = triple_line (node_term t.subject) (predicate_term t.predicate) (object_value t.object)
 
