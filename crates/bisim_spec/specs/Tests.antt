@@ -69,7 +69,7 @@ is_partition s block = all_below (max s.size (length block)) (λ n. beq (is_some
 abbrev pub agrees : Shape → List (Option ℕ) → (ℕ → ℕ → Bool) → Bool
 agrees s block r = is_partition s block && all_pairs s.size (λ u v. beq (together block u v) (r u v))
 
--- whether two nodes may stand in one block
+-- whether the two stand apart, or have one label, and each parent of u shares a block with one of v
 abbrev pub alike : Shape → List (Option ℕ) → ℕ → ℕ → Bool
 alike s block u v = not (together block u v) || (same_label s u v && covers s.size s.edge (together block) u v)
 

@@ -99,7 +99,10 @@ note_line blocks pairs = if is_whole blocks pairs then [] else left_text blocks 
 
 -- the line that opens the graph, and how it, its boxes and its edges look
 abbrev pub head_text : List ℕ
-head_text = codes "digraph pathindex {\n  rankdir=TB; nodesep=0.25; ranksep=0.45;\n  node [fontname=\"Helvetica\" fontsize=11 shape=box style=\"filled,rounded\" penwidth=0.8 margin=\"0.12,0.06\"];\n  edge [fontname=\"Helvetica\" fontsize=9 arrowsize=0.7 color=\"#555555\"];\n"
+head_text =
+    codes "digraph pathindex {\n  rankdir=TB; nodesep=0.25; ranksep=0.45;\n"
+    ++ (codes "  node [fontname=\"Helvetica\" fontsize=11 shape=box style=\"filled,rounded\" penwidth=0.8 margin=\"0.12,0.06\"];\n"
+    ++ codes "  edge [fontname=\"Helvetica\" fontsize=9 arrowsize=0.7 color=\"#555555\"];\n")
 
 -- the line that closes the graph
 abbrev pub tail_text : List ℕ

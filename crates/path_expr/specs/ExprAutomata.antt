@@ -5,7 +5,7 @@ use Rattle.path_automaton.specs.declared.state.State.TheVariants.{End, Stuck, An
 use Rattle.path_spec.specs.Trees.{star, plus, opt, child, below, Expr, only, or, Seq, last, then, Item, once, signed, Atom, label, any, group}
 use Rattle.path_spec.specs.Matches.{Word}
 
--- what is read from a state on, where `Run` says what is read from the states that follow
+-- what is read from a state on, where `Rest` says what is read from the states that follow
 abbrev pub ReadsFrom : List (List ℕ) → Option State → (ℕ → Word → Type 0) → Word → Type 0
 ReadsFrom texts None Rest w = ⊥
 ReadsFrom texts (Some End) Rest w = w ≡ []

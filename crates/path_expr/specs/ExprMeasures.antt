@@ -1,4 +1,4 @@
--- Each expression inside a tree has fewer parts than the tree.
+-- No sequence of an expression is nested deeper than the expression's tree has parts.
 use Rattle.std.specs.Prelude.{◌+◌, ◌≤◌, max, List, [], ◌∷◌, Option, None, Some}
 use Rattle.std.proofs.Common.{arith}
 use denote.Param.Weighed.{most}
