@@ -10,7 +10,7 @@ use Rattle.branch_spec.specs.Relaxed.{relax, relax_step, relax_preds, relax_or, 
 use Rattle.branch_spec.specs.Tokens.{Token, lab, underscore, axis, left, right, opening, closing, not_word, and_word, or_word, nothing, test_onto, step_onto, preds_onto, or_onto, and_onto, cond_onto, chain_onto, tokens}
 use Rattle.branch_spec.specs.Spelling.{EndsBackslash, SpellsTokens, canonical}
 use Rattle.branch_spec.proofs.CanonicalTexts.{SpellThemselves, BeginWithNoAxis, canonical_spells}
-use Rattle.branch_text.specs.Parsed.{Spells, AreLabels, is_spelled, has_text}
+use Rattle.branch_text.specs.Parsed.{SpellsBranch, AreLabels, is_spelled, has_text}
 use Rattle.path_query.proofs.LabelLaws.{label_first}
 use Rattle.path_query.proofs.TokenPrefixLaws.{label_no_slash}
 use Rattle.branch_text.proofs.TokenPrefixLaws.{label_no_backslash}
@@ -66,13 +66,13 @@ no_axis = record {
   backslash = λ t rest h. let f = label_first t t h in subst (λ x. EndsBackslash (x ++ rest)) (sym f.is) (label_no_backslash f.byte f.opens);
 }
 
-pub are_labels : (text : List ℕ) (q : tree.Branch) → Spells text q → AreLabels (tokens q)
+pub are_labels : (text : List ℕ) (q : tree.Branch) → SpellsBranch text q → AreLabels (tokens q)
 are_labels text q h = labels text (tokens q) h
 
-pub is_written : (text : List ℕ) (q : tree.Branch) → Spells text q → IsTrue (has_text q)
+pub is_written : (text : List ℕ) (q : tree.Branch) → SpellsBranch text q → IsTrue (has_text q)
 is_written text q h = all_spelled text (tokens q) h
 
-pub again : (q : tree.Branch) → AreLabels (tokens q) → IsTrue (has_text q) → Spells (canonical q) q
+pub again : (q : tree.Branch) → AreLabels (tokens q) → IsTrue (has_text q) → SpellsBranch (canonical q) q
 again q h k = canonical_spells SpellsLabel no_axis q (themselves (tokens q) h k)
 
 -- the labels of a part stay where it is relaxed, whatever follows it

@@ -11,10 +11,10 @@ use Rattle.branch_spec.specs.Relaxed.{relax}
 use Rattle.branch_spec.specs.Depths.{depth}
 use Rattle.branch_spec.proofs.TokenCounts.{few_edges, relaxed_few}
 use Rattle.branch_expr.specs.CappedDepths.{greatest_depth}
-use Rattle.branch_text.specs.Parsed.{Spells, HasFewTokens}
+use Rattle.branch_text.specs.Parsed.{SpellsBranch, HasFewTokens}
 use Rattle.branch_text.proofs.TokenPrefixLaws.{branch_language}
 
-pub few_tokens : (limits : Limits) (text : List ℕ) (q : Branch) → is_past limits text ≡ false → Spells text q → HasFewTokens q
+pub few_tokens : (limits : Limits) (text : List ℕ) (q : Branch) → is_past limits text ≡ false → SpellsBranch text q → HasFewTokens q
 few_tokens limits text q fits h =
     let few : length (tokens q) ≤ length text = tokens_few branch_language (tokens q) text h in
     let short : length text ≤ 2 ^ 30 = few_bytes limits text fits in

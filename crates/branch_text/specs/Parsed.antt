@@ -7,8 +7,8 @@ use Rattle.branch_spec.specs.Spelling as spelling
 use Rattle.path_query.specs.Labels.{SpellsLabel}
 
 -- the text spells the query, with labels as `SpellsLabel` has them
-abbrev pub Spells : List ℕ → Branch → Type 0
-Spells text q = spelling.Spells SpellsLabel text q
+abbrev pub SpellsBranch : List ℕ → Branch → Type 0
+SpellsBranch text q = spelling.Spells SpellsLabel text q
 
 -- whether the token has a text; `nothing` has none
 abbrev pub is_spelled : Token → Bool

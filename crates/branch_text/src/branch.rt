@@ -5,7 +5,7 @@ ghost use Rattle.branch_spec.specs.Relaxed.{relax};
 ghost use Rattle.branch_spec.specs.Depths.{depth};
 ghost use Rattle.branch_spec.specs.Spelling.{canonical};
 ghost use Rattle.path_query.specs.Parsed.{is_past};
-ghost use Rattle.branch_text.specs.Parsed.{Spells, has_text};
+ghost use Rattle.branch_text.specs.Parsed.{SpellsBranch, has_text};
 
 use crate::parsing::read;
 use crate::writing::write_branch;
@@ -49,12 +49,12 @@ impl Branch {
     /// deeper than `expr_depth`, else `Syntax` only where it spells none, and `Memory` where memory runs out. O(n) for n
     /// bytes; it takes O(n) memory.
     pub fn parse(alloc: Global, text: &[u8], limits: &Limits) -> Result<Branch, ExprError>
-        ensures ok { IfOk result (λ q. Spells text.now q) }
-        ensures only { IfOk result (λ q. (other : tree.Branch) → Spells text.now other → other ≡ q) }
+        ensures ok { IfOk result (λ q. SpellsBranch text.now q) }
+        ensures only { IfOk result (λ q. (other : tree.Branch) → SpellsBranch text.now other → other ≡ q) }
         ensures written { IfOk result (λ q. IsTrue (has_text q)) }
         ensures limit { (result ≡ Err ExprError.Limit) ↔ IsTrue (is_past limits.now text.now) }
-        ensures syntax { IsErrOf result ExprError.Syntax → (q : tree.Branch) → Spells text.now q → ⊥ }
-        ensures once { (p q : tree.Branch) → Spells text.now p → Spells text.now q → p ≡ q }
+        ensures syntax { IsErrOf result ExprError.Syntax → (q : tree.Branch) → SpellsBranch text.now q → ⊥ }
+        ensures once { (p q : tree.Branch) → SpellsBranch text.now p → SpellsBranch text.now q → p ≡ q }
     {
         if is_past(limits, text) {
             return Err(ExprError::Limit);
@@ -73,7 +73,7 @@ impl Branch {
     pub fn write(&self, alloc: Global) -> Result<Text, Memory>
         requires { IsTrue (has_text self.now) }
         ensures canonical { IfOk result (λ t. t ≡ canonical self.now) }
-        ensures again { IfOk result (λ t. Spells t self.now) }
+        ensures again { IfOk result (λ t. SpellsBranch t self.now) }
     {
         let mut out = String::new(alloc);
         write_branch(&mut out, &self.tree)?;

@@ -28,7 +28,7 @@ use Rattle.block_partition.specs.FilledTables.{HaveLabels, SameBlocks}
 use Rattle.block_splitting.specs.Chosen.{HasFirst}
 use Rattle.block_splitting.specs.Splits.{IsNeighbour, AreLabelled}
 use Rattle.block_splitting.proofs.Lists.{all_get}
-use Rattle.coarsest_partition.specs.Ordered.{IsOrdered, IsReady, AreAllNumbered}
+use Rattle.coarsest_partition.specs.Ordered.{IsOrdered, IsReadyForRounds, AreAllNumbered}
 use Rattle.coarsest_partition.specs.Refined.{parents_alone, IsTarget, IsRefined}
 use Rattle.coarsest_partition.proofs.StepLaws.{bisim_target, bisim_end}
 
@@ -195,10 +195,10 @@ set_at block n m v h = elim (eqb_tells m n) [
 
 -- a node that is ready gets the number of its key
 pub numbered_more : (g : Graph) → IsGraph g → (keys keys2 : List (List ℕ)) (block block2 block3 : List (Option ℕ)) (n k label : ℕ) (parents : List ℕ) → block2 ≡ block → block3 ≡ block → n < length block
-    → IsOrdered g keys block → IsSome (label_number g n) → IsReady block2 n parents → Lists (λ p. is_neighbour Parents g p n) parents → label_number g n ≡ Some label
+    → IsOrdered g keys block → IsSome (label_number g n) → IsReadyForRounds block2 n parents → Lists (λ p. is_neighbour Parents g p n) parents → label_number g n ≡ Some label
     → (key : List ℕ) × IsWritten (at block3) parents label key × Interns keys keys2 key k → AreDistinct keys2 → IsOrdered g keys2 (slice_set block n (Some k))
 numbered_more g s keys keys2 block block2 block3 n k label parents same same3 within w node ready lists label_is (key, written, interned) distinct =
-    let r : IsReady block n parents = subst (λ (bs : List (Option ℕ)). IsReady bs n parents) same ready in
+    let r : IsReadyForRounds block n parents = subst (λ (bs : List (Option ℕ)). IsReadyForRounds bs n parents) same ready in
     let wr : IsWritten (at block) parents label key = subst (λ (bs : List (Option ℕ)). IsWritten (at bs) parents label key) same3 written in
     ordered_more g s keys keys2 block (slice_set block n (Some k)) n k key w (record {
       node = node;

@@ -30,7 +30,7 @@ pub record IsOrdered (g : Graph) (keys : List (List ℕ)) (block : List (Option 
   pub coarse : (u v : ℕ) → IsSome (at block u) → IsSome (at block v) → Bisim (shape_of g) u v → Together block u v
 
 -- the node has no number, and all these have
-pub record IsReady (block : List (Option ℕ)) (n : ℕ) (parents : List ℕ) : Type 0 where
+pub record IsReadyForRounds (block : List (Option ℕ)) (n : ℕ) (parents : List ℕ) : Type 0 where
   -- the node has no number
   pub none : at block n ≡ None
   -- all these have one

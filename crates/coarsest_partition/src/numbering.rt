@@ -6,7 +6,7 @@ ghost use Rattle.graph_spec.specs.Members.{at};
 ghost use Rattle.label_graph.specs.GraphViews.{label_number};
 ghost use Rattle.key_table.specs.NumberedKeys.{AreDistinct, Interns};
 ghost use Rattle.bisim_spec.specs.NodeKeys.{IsWritten};
-ghost use Rattle.coarsest_partition.specs.Ordered.{IsOrdered, IsReady};
+ghost use Rattle.coarsest_partition.specs.Ordered.{IsOrdered, IsReadyForRounds};
 
 use bisim_levels::{block_of, single_block, write_key};
 use key_table::KeyTable;
@@ -22,7 +22,7 @@ fn are_numbered(block: &[Option<u32>], nodes: &[NodeId]) -> bool
 
 // Whether the node has no number, and all its parents have.
 fn is_ready(block: &[Option<u32>], n: NodeId, parents: &[NodeId]) -> bool
-    ensures { IsTrue result → IsReady block.now n parents.now }
+    ensures { IsTrue result → IsReadyForRounds block.now n parents.now }
 {
     if block_of(block, n).is_some() {
         return false;

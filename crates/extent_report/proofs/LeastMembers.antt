@@ -16,7 +16,7 @@ use Rattle.extent_report.specs.MemberChains.{is_first_member, word_with}
 use Rattle.extent_report.specs.FirstMembers.{is_head, first_member_block}
 use Rattle.extent_report.proofs.Chained.{with_is_of}
 use Rattle.extent_report.proofs.NumberedTexts.{any_same}
-use Rattle.extent_report.proofs.NodeWords.{led_block}
+use Rattle.extent_report.proofs.NodeWords.{begun_block}
 use Rattle.graph_spec.proofs.MemberLaws.{has_push}
 use Rattle.extent_report.proofs.RisingLists.{texts_listed, flat_same, none_before}
 use Rattle.std.specs.List.{flat_map, list_any}
@@ -132,8 +132,8 @@ first_member_some p live n all = by (at p.block_of n) refl
         ∙ sym (first_member_at (Some c) e)
 
 -- a node that is first in its block has a number that was allocated
-pub led_below : (p : Partition) (n : ℕ) → is_first_member p n ≡ true → n < length p.block_of
-led_below p n h = block_below p.block_of n (led_block p n h)
+pub begun_below : (p : Partition) (n : ℕ) → is_first_member p n ≡ true → n < length p.block_of
+begun_below p n h = block_below p.block_of n (begun_block p n h)
 
 -- the members of the block of a node, as they are written
 pub words_listed : (p : Partition) (n b : ℕ) (members : List ℕ) → at p.block_of n ≡ Some b → IsStrictlyIncreasing members → ((k : ℕ) → has members k ≡ is_member p b k)

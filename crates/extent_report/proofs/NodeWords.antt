@@ -60,14 +60,14 @@ word_end block first last h l =
     texts_past (last + 1) (length block) (word_with block first) (omega (arith, within)) (λ k a b. silent block first k (sym (row_same block first last k h) ∙ l k a))
 
 -- the first node, which are first the others
-pub led_block : (p : Partition) (n : ℕ) → is_first_member p n ≡ true → IsSome (at p.block_of n)
-led_block p n h = elim (none_or_some (at p.block_of n)) [
+pub begun_block : (p : Partition) (n : ℕ) → is_first_member p n ≡ true → IsSome (at p.block_of n)
+begun_block p n h = elim (none_or_some (at p.block_of n)) [
   | inl none ↦ absurd (true≢false (sym (and_parts (is_some (label_at p n)) (not (any_below n (together p.block_of n))) h).0 ∙ ap (λ o. is_some (option_and_then (at p.labels) o)) none))
   | inr (b, e) ↦ is_some_at (at p.block_of n) b e
 ]
 
 pub with_itself : (p : Partition) (n : ℕ) → is_first_member p n ≡ true → together p.block_of n n ≡ true
-with_itself p n h = let b = some_of (at p.block_of n) (led_block p n h) in (together_decides p.block_of n n).1 (b.0, b.1, b.1)
+with_itself p n h = let b = some_of (at p.block_of n) (begun_block p n h) in (together_decides p.block_of n n).1 (b.0, b.1, b.1)
 
 pub word_first : (p : Partition) (n : ℕ) → is_first_member p n ≡ true → texts_below (n + 1) (word_with p.block_of n) ≡ 32 ∷ node_word n
 word_first p n h =

@@ -20,7 +20,7 @@ use Rattle.bisim_spec.proofs.EdgeSupports.{support_adjacent, adjacent_support}
 use Rattle.quotient.specs.Quotients.{Quotient, view_of, pair_count}
 use Rattle.extent_report.specs.ListedBlocks.{is_related, is_first, are_adjacent, block_total, adjacent_total, size_line}
 use Rattle.extent_report.specs.Summaries.{IsSummaryOf}
-use Rattle.extent_report.specs.MemberChains.{is_of}
+use Rattle.extent_report.specs.MemberChains.{is_in}
 use Rattle.extent_report.proofs.ListedSummaries.{allocated_below}
 use Rattle.extent_report.proofs.PairCounts.{count_into, taken_places, pairs_into, pairs_over, kept_key, kept_some}
 
@@ -73,19 +73,19 @@ module _ (g : Graph) (q : Quotient) (r : ℕ → ℕ → Bool) (fits : ViewFits 
   begun : (n : ℕ) → is_first (shape_of g) r n ≡ true → (a : ℕ) × Begins n a
   begun n h = let a = some_of (at q.blocks.block_of n) (agrees.partition.live n (node_of n h)) in (a.0, record { first_is = h; block_is = a.1 })
 
-  of_is : (a n : ℕ) → is_of q.blocks.block_of a n ≡ true → at q.blocks.block_of n ≡ Some a
+  of_is : (a n : ℕ) → is_in q.blocks.block_of a n ≡ true → at q.blocks.block_of n ≡ Some a
   of_is a n h = block_get a (at q.blocks.block_of n) h
 
   -- the first node of a block with a member
   beginning : (n a : ℕ) → at q.blocks.block_of n ≡ Some a → (w : ℕ) × (w < length g.allocated) × (is_first (shape_of g) r w ≡ true) × Begins w a
   beginning n a e =
-      let w = least (suc n) (is_of q.blocks.block_of a) (any_from (suc n) (is_of q.blocks.block_of a) n (omega arith) (block_from a (at q.blocks.block_of n) e)) in
+      let w = least (suc n) (is_in q.blocks.block_of a) (any_from (suc n) (is_in q.blocks.block_of a) n (omega arith) (block_from a (at q.blocks.block_of n) e)) in
       let f = of_is a w.0 w.2 in
       let none : any_below w.0 (is_related (shape_of g) r w.0) ≡ false = elim (cases_Bool (any_below w.0 (is_related (shape_of g) r w.0))) [
         | inl some ↦ absurd (
             let k = any_get w.0 (is_related (shape_of g) r w.0) some in
             let m = member_by w.0 k.0 a (member_node w.0 a f) f k.2 in
-            true≢false (sym (block_from a (at q.blocks.block_of k.0) m) ∙ none_get w.0 (is_of q.blocks.block_of a) w.3 k.0 k.1))
+            true≢false (sym (block_from a (at q.blocks.block_of k.0) m) ∙ none_get w.0 (is_in q.blocks.block_of a) w.3 k.0 k.1))
         | inr off ↦ off
       ] in
       let is : is_first (shape_of g) r w.0 ≡ true = and_from (is_some (label_of g w.0)) (not (any_below w.0 (is_related (shape_of g) r w.0))) (member_node w.0 a f) (ap not none) in

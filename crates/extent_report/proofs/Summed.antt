@@ -58,32 +58,32 @@ first_leads texts p h n =
     by true = refl
     by false = refl
 
-pub total_led : (texts : List (List ℕ)) (p : Partition) → LabelsHaveTexts texts p → block_total (shape_of_blocks texts p) (together p.block_of) ≡ count_below (length p.block_of) (is_first_member p)
-total_led texts p h = count_same (length p.block_of) (is_first (shape_of_blocks texts p) (together p.block_of)) (is_first_member p) (λ n _. first_leads texts p h n)
+pub total_begun : (texts : List (List ℕ)) (p : Partition) → LabelsHaveTexts texts p → block_total (shape_of_blocks texts p) (together p.block_of) ≡ count_below (length p.block_of) (is_first_member p)
+total_begun texts p h = count_same (length p.block_of) (is_first (shape_of_blocks texts p) (together p.block_of)) (is_first_member p) (λ n _. first_leads texts p h n)
 
 -- the line of a block that has a first member
-pub line_led : (texts : List (List ℕ)) (p : Partition) → LabelsHaveTexts texts p → (n b l : ℕ) (t : List ℕ) → is_first_member p n ≡ true → at p.block_of n ≡ Some b → at p.labels b ≡ Some l → slice_get texts l ≡ Some t
+pub line_begun : (texts : List (List ℕ)) (p : Partition) → LabelsHaveTexts texts p → (n b l : ℕ) (t : List ℕ) → is_first_member p n ≡ true → at p.block_of n ≡ Some b → at p.labels b ≡ Some l → slice_get texts l ≡ Some t
     → block_line (shape_of_blocks texts p) (together p.block_of) n ≡ t ++ texts_below (length p.block_of) (word_with p.block_of n) ++ 10 ∷ []
-line_led texts p h n b l t led e f g =
+line_begun texts p h n b l t begun e f g =
     let s = shape_of_blocks texts p in
     let own : s.label n ≡ Some t = ap (λ o. option_and_then (slice_get texts) (option_and_then (at p.labels) o)) e ∙ ap (option_and_then (slice_get texts)) f ∙ g in
-    let some : is_some (label_at p n) ≡ true = (and_parts (is_some (label_at p n)) (not (any_below n (together p.block_of n))) led).0 in
+    let some : is_some (label_at p n) ≡ true = (and_parts (is_some (label_at p n)) (not (any_below n (together p.block_of n))) begun).0 in
     let word : ℕ → List ℕ = λ m. cond (is_related s (together p.block_of) n m) (32 ∷ node_word m) [] in
     ap (λ o. unwrap_or o [] ++ texts_below (length p.block_of) word ++ 10 ∷ []) own
     ∙ ap (λ w. t ++ w ++ 10 ∷ []) (texts_same (length p.block_of) word (word_with p.block_of n) (λ m _.
     ap (λ c. cond c (32 ∷ node_word m) []) (related_is texts p h n m ∙ ap (λ c. c && together p.block_of n m) some)))
 
-pub line_at_led : (texts : List (List ℕ)) (p : Partition) → LabelsHaveTexts texts p → (n : ℕ) → is_first_member p n ≡ true → line_at texts p n ≡ block_line (shape_of_blocks texts p) (together p.block_of) n
-line_at_led texts p h n led = rw (first_leads texts p h n ∙ led) refl
+pub line_at_begun : (texts : List (List ℕ)) (p : Partition) → LabelsHaveTexts texts p → (n : ℕ) → is_first_member p n ≡ true → line_at texts p n ≡ block_line (shape_of_blocks texts p) (together p.block_of) n
+line_at_begun texts p h n begun = rw (first_leads texts p h n ∙ begun) refl
 
 pub line_at_other : (texts : List (List ℕ)) (p : Partition) → LabelsHaveTexts texts p → (n : ℕ) → is_first_member p n ≡ false → line_at texts p n ≡ []
-line_at_other texts p h n led = rw (first_leads texts p h n ∙ led) refl
+line_at_other texts p h n begun = rw (first_leads texts p h n ∙ begun) refl
 
--- the text, written by blocks that are led
-pub text_led : (texts : List (List ℕ)) (p : Partition) → LabelsHaveTexts texts p
+-- the text, written by the blocks that nodes begin
+pub text_begun : (texts : List (List ℕ)) (p : Partition) → LabelsHaveTexts texts p
     → extents_text (shape_of_blocks texts p) (together p.block_of)
     ≡ codes "blocks " ++ decimal (count_below (length p.block_of) (is_first_member p)) ++ 10 ∷ texts_below (length p.block_of) (line_at texts p)
-text_led texts p h = ap (λ n. codes "blocks " ++ decimal n ++ 10 ∷ texts_below (length p.block_of) (line_at texts p)) (total_led texts p h)
+text_begun texts p h = ap (λ n. codes "blocks " ++ decimal n ++ 10 ∷ texts_below (length p.block_of) (line_at texts p)) (total_begun texts p h)
 
 -- what was written, first the number of blocks and then their lines
 pub gathered : (texts : List (List ℕ)) (p : Partition) → LabelsHaveTexts texts p → (n : ℕ) (a b z : List ℕ) → n ≡ count_below (length p.block_of) (is_first_member p)
@@ -95,4 +95,4 @@ gathered texts p h n a b z count empty first rest =
     ∙ ap (λ t. t ++ lines) (first ∙ ap (λ t. t ++ (codes "blocks " ++ decimal n ++ 10 ∷ [])) empty)
     ∙ append_assoc (codes "blocks " ++ decimal n) (10 ∷ []) lines
     ∙ ap (λ m. codes "blocks " ++ decimal m ++ 10 ∷ lines) count
-    ∙ sym (text_led texts p h)
+    ∙ sym (text_begun texts p h)

@@ -52,11 +52,16 @@ fn push_block(
 }
 
 // Appends the line of the node's block, if the node is its first.
-fn push_led(out: &mut String, chains: &Chains<'_>, labels: &Labels, n: NodeId) -> Result<(), Memory>
+fn push_line_at(
+    out: &mut String,
+    chains: &Chains<'_>,
+    labels: &Labels,
+    n: NodeId,
+) -> Result<(), Memory>
     requires { LabelsHaveTexts labels.now.texts chains.now }
     ensures { OnOk result (string_bytes out.new ≡ string_bytes out.old ++ line_at labels.now.texts chains.now n) }
 {
-    match chains.led(n) {
+    match chains.block_begun_by(n) {
         Some(b) => push_block(out, chains, labels, b, n),
         None => Ok(()),
     }
@@ -68,18 +73,18 @@ fn push_blocks(out: &mut String, chains: &Chains<'_>, labels: &Labels) -> Result
     ensures { OnOk result (string_bytes out.new ≡ string_bytes out.old ++ texts_below (length chains.now.block_of) (line_at labels.now.texts chains.now)) }
 {
     for n in 0..chains.numbers() {
-        push_led(out, chains, labels, n)?;
+        push_line_at(out, chains, labels, n)?;
     }
     Ok(())
 }
 
 // How many blocks have a first node.
-fn count_led(chains: &Chains<'_>) -> u32
+fn count_begun(chains: &Chains<'_>) -> u32
     ensures { result ≡ count_below (length chains.now.block_of) (is_first_member chains.now) }
 {
     let mut count = 0;
     for n in 0..chains.numbers() {
-        if chains.led(n).is_some() {
+        if chains.block_begun_by(n).is_some() {
             count += 1;
         }
     }
@@ -93,7 +98,7 @@ fn text_by_chains(alloc: Global, summary: &Summary, labels: &Labels) -> Result<T
 {
     let chains = Chains::of(alloc, summary)?;
     let mut out = String::new(alloc);
-    push_count(&mut out, u64::from(count_led(&chains)))?;
+    push_count(&mut out, u64::from(count_begun(&chains)))?;
     push_blocks(&mut out, &chains, labels)?;
     Ok(Text::from_string(out))
 }

@@ -50,7 +50,7 @@ impl<'a> Chains<'a> {
     }
 
     /// The block of which the node is the least member.
-    pub(crate) fn led(&self, n: NodeId) -> Option<u32>
+    pub(crate) fn block_begun_by(&self, n: NodeId) -> Option<u32>
         ensures is_first_member { is_some result ≡ is_first_member self.now n }
         ensures block { IfSome result (λ b. at self.now.block_of n ≡ Some b) }
         ensures live { IfSome result (λ b. IsSome (at self.now.labels b)) }

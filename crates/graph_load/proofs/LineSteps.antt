@@ -9,7 +9,7 @@ use Rattle.px_base.specs.Files.{File, Finds}
 use Rattle.px_base.specs.ReaderStates.{ReaderState, ReadsLine, IsFirst, IsOver, IsPast, stream, IsReadable as MayTake}
 use Rattle.graph_spec.specs.Lines.{Line, cut}
 use Rattle.graph_spec.specs.declared.limits.Limits.{Limits}
-use Rattle.triples_read.specs.Lines.{Spells, Empty}
+use Rattle.triples_read.specs.Lines.{SpellsTriple, Empty}
 use Rattle.triples_read.specs.declared.term.Triple.{Triple}
 use Rattle.graph_load.specs.declared.files.LoadError.{LoadError}
 use Rattle.graph_load.specs.declared.files.LoadError.TheVariants as error
@@ -111,23 +111,23 @@ module _ (r q : ReaderState) (before after : Option (List ℕ)) (reads : ReadsLi
         empty (subst Empty text_is is_empty) o (subst (λ p. LoadsFrom limits rest p o) (sym (behind l l)) h))
 
     -- a line spells a triple
-    past_triple : (t : Triple) → Spells q.line t → (l : LoadState) (o : Ending) → LoadsThen limits Lines q after (with_one limits (record { triple = hashed t; line = q.number }) l) o → LoadsAhead limits before (place r l) o
+    past_triple : (t : Triple) → SpellsTriple q.line t → (l : LoadState) (o : Ending) → LoadsThen limits Lines q after (with_one limits (record { triple = hashed t; line = q.number }) l) o → LoadsAhead limits before (place r l) o
     past_triple t spells l o h = by (with_triple limits t l) refl h
       where
         by : (x : Result LoadState Refusal) → with_triple limits t l ≡ x → LoadsThen limits Lines q after (at_line q.number x) o → LoadsAhead limits before (place r l) o
         by (Ok m) is h =
             follows limits (place r l) reads.first before after (place q m) o reads.observable (within l) (λ rest k.
-            takes t (subst (λ x. Spells x t) text_is spells) m is o (subst (λ p. LoadsFrom limits rest p o) (sym (behind l m)) k)) h
+            takes t (subst (λ x. SpellsTriple x t) text_is spells) m is o (subst (λ p. LoadsFrom limits rest p o) (sym (behind l m)) k)) h
         by (Err e) is h =
             subst (LoadsAhead limits before (place r l)) (ap limit (sym number_is) ∙ sym h)
-            (stops limits (place r l) reads.first before after (limit (r.number + 1)) reads.observable (within l) (λ rest. refuses t (subst (λ x. Spells x t) text_is spells) e is))
+            (stops limits (place r l) reads.first before after (limit (r.number + 1)) reads.observable (within l) (λ rest. refuses t (subst (λ x. SpellsTriple x t) text_is spells) e is))
 
     -- a line is neither
-    past_neither : (¬ Empty q.line) → ((t : Triple) → Spells q.line t → ⊥) → (l : LoadState) (o : Ending) → o ≡ syntax q.number → LoadsAhead limits before (place r l) o
+    past_neither : (¬ Empty q.line) → ((t : Triple) → SpellsTriple q.line t → ⊥) → (l : LoadState) (o : Ending) → o ≡ syntax q.number → LoadsAhead limits before (place r l) o
     past_neither none nothing l o is =
         subst (LoadsAhead limits before (place r l)) (ap syntax (sym number_is) ∙ sym is)
         (stops limits (place r l) reads.first before after (syntax (r.number + 1)) reads.observable (within l)
-        (λ rest. neither (λ t s. nothing t (subst (λ x. Spells x t) (sym text_is) s)) (λ e. none (subst Empty (sym text_is) e))))
+        (λ rest. neither (λ t s. nothing t (subst (λ x. SpellsTriple x t) (sym text_is) s)) (λ e. none (subst Empty (sym text_is) e))))
 
   -- a line was read
   pub reads_on : (next : Next) (waited waits : List Waiting) → AddsLine q.line q.number waited waits next → ReadsLines r waited before next q waits after

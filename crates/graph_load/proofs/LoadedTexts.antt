@@ -8,7 +8,7 @@ use Rattle.std.proofs.lemmas.Bool.{or_cases, or_left, or_right}
 use Rattle.graph_spec.specs.declared.limits.Limits.{Limits}
 use Rattle.graph_spec.specs.Graphs.{Graph, empty_graph, edge_cmp, is_live}
 use Rattle.graph_spec.specs.Lines.{Line, cut}
-use Rattle.triples_read.specs.Lines.{Spells, Empty}
+use Rattle.triples_read.specs.Lines.{SpellsTriple, Empty}
 use Rattle.triples_read.proofs.OneTriple.{one_reading, spelled_not_empty}
 use Rattle.triples_read.specs.declared.term.Triple.{Triple}
 use Rattle.px_base.specs.Files.{File, Finds}
@@ -81,13 +81,13 @@ adds_empty l after x xs e a = record {
 }
 
 -- a line with one
-adds_one : (l m after : LoadState) (x : Line) (xs : List Line) (u : Triple) → Spells x.text u → IsLoadedWith u l m → Adds m xs after → Adds l (x ∷ xs) after
+adds_one : (l m after : LoadState) (x : Line) (xs : List Line) (u : Triple) → SpellsTriple x.text u → IsLoadedWith u l m → Adds m xs after → Adds l (x ∷ xs) after
 adds_one l m after x xs u spells one a = record {
   represented = a.represented;
   into = λ t h. elim (a.into t h) [
     | inl old ↦ elim (or_cases (is_among (keys_of l.triples) t) (same_triple t u) (sym (among t) ∙ old)) [
       | inl before ↦ inl before
-      | inr same ↦ inr (inl (subst (Spells x.text) (sym (triple_is t u same)) spells))
+      | inr same ↦ inr (inl (subst (SpellsTriple x.text) (sym (triple_is t u same)) spells))
     ]
     | inr later ↦ inr (inr later)
   ];

@@ -3,7 +3,7 @@ use Rattle.std.proofs.Common.{◌≡◌, ℕ, List, [], ◌∷◌, refl, sym, ap
 use Rattle.graph_spec.specs.declared.limits.Limits.{Limits}
 use Rattle.graph_spec.specs.Lines.{Line, cut}
 use Rattle.triples_read.specs.declared.term.Triple.{Triple}
-use Rattle.triples_read.specs.Lines.{Spells}
+use Rattle.triples_read.specs.Lines.{SpellsTriple}
 use Rattle.triples_read.proofs.OneTriple.{one_reading, spelled_not_empty}
 use Rattle.graph_load.specs.TripleGraphs.{with_triple}
 use Rattle.graph_load.specs.Loads.{Outcome, Ending, outcome_of, Place, past, LoadsLine, empty, takes, refuses, neither, LoadsFrom, Loads, at_start}
@@ -11,7 +11,7 @@ use Rattle.graph_load.proofs.ChangeLaws.{ok_is, not_both}
 
 module _ (limits : Limits) (p : Place) (l : Line) where
   -- the triple of a line is loaded or refused in one way
-  same_result : (t u : Triple) → Spells l.text t → Spells l.text u → with_triple limits t p.state ≡ with_triple limits u p.state
+  same_result : (t u : Triple) → SpellsTriple l.text t → SpellsTriple l.text u → with_triple limits t p.state ≡ with_triple limits u p.state
   same_result t u s r = ap (λ x. with_triple limits x p.state) (one_reading l.text t u s r)
 
   module _ (rest : Place → Ending → Type 0) (one : (q : Place) (a b : Ending) → rest q a → rest q b → a ≡ b) where

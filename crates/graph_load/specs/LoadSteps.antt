@@ -9,7 +9,7 @@ use Rattle.graph_spec.specs.declared.limits.Limits.{Limits}
 use Rattle.graph_spec.specs.Graphs.{Graph}
 use Rattle.triple_names.specs.Names.{Names}
 use Rattle.graph_spec.specs.declared.refusal.Refusal.{Refusal}
-use Rattle.triples_read.specs.Lines.{Spells, Empty}
+use Rattle.triples_read.specs.Lines.{SpellsTriple, Empty}
 use Rattle.triples_read.specs.declared.term.Triple.{Triple}
 use Rattle.graph_load.specs.declared.files.LoadError.{LoadError}
 use Rattle.graph_load.specs.declared.files.LoadError.TheVariants as error
@@ -139,9 +139,9 @@ LoadsThen limits next r text (Err n) o = o ≡ limit n
 -- a line, of that number, is put behind those that wait where it spells a triple
 abbrev pub AddsLine : List ℕ → ℕ → List Waiting → List Waiting → Next → Type 0
 AddsLine text n old new Lines =
-    (Empty text × (new ≡ old)) ⊎ ((t : Triple) × Spells text t × (new ≡ old ++ record { triple = hashed t; line = n } ∷ []))
+    (Empty text × (new ≡ old)) ⊎ ((t : Triple) × SpellsTriple text t × (new ≡ old ++ record { triple = hashed t; line = n } ∷ []))
 AddsLine text n old new End = ⊥
-AddsLine text n old new (Syntax m) = (m ≡ n) × (new ≡ old) × (¬ Empty text) × ((t : Triple) → Spells text t → ⊥)
+AddsLine text n old new (Syntax m) = (m ≡ n) × (new ≡ old) × (¬ Empty text) × ((t : Triple) → SpellsTriple text t → ⊥)
 AddsLine text n old new (Limit m) = ⊥
 
 -- Lines were read: whatever outcome follows from the triples that wait afterwards and the text that is left then, follows

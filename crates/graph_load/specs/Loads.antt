@@ -7,7 +7,7 @@ use Rattle.graph_spec.specs.Lines.{Line, cut}
 use Rattle.graph_spec.specs.Graphs.{Graph}
 use Rattle.graph_spec.specs.Shapes.{shape_of}
 use Rattle.triples_read.specs.declared.term.Triple.{Triple}
-use Rattle.triples_read.specs.Lines.{Spells, Empty}
+use Rattle.triples_read.specs.Lines.{SpellsTriple, Empty}
 use Rattle.triple_names.specs.Names.{Names, AreSameNames}
 use Rattle.triple_names.specs.Represented.{Represents, is_among}
 use Rattle.triple_names.specs.Histories.{Edit, EditsAll, edited_all}
@@ -61,10 +61,10 @@ IsWithinFile p l = (length l.text ≤ LINE_BYTES) × (p.bytes + length l.text + 
 -- or neither. What follows is said of the place behind it.
 pub data LoadsLine (limits : Limits) (p : Place) (l : Line) (rest : Place → Ending → Type 0) : Ending → Type 0 where
   empty : Empty l.text → (e : Ending) → rest (past p l p.state) e → LoadsLine limits p l rest e
-  takes : (t : Triple) → Spells l.text t → (m : LoadState) → with_triple limits t p.state ≡ Ok m
+  takes : (t : Triple) → SpellsTriple l.text t → (m : LoadState) → with_triple limits t p.state ≡ Ok m
       → (e : Ending) → rest (past p l m) e → LoadsLine limits p l rest e
-  refuses : (t : Triple) → Spells l.text t → (r : Refusal) → with_triple limits t p.state ≡ Err r → LoadsLine limits p l rest (limit (p.lines + 1))
-  neither : ((t : Triple) → Spells l.text t → ⊥) → (Empty l.text → ⊥) → LoadsLine limits p l rest (syntax (p.lines + 1))
+  refuses : (t : Triple) → SpellsTriple l.text t → (r : Refusal) → with_triple limits t p.state ≡ Err r → LoadsLine limits p l rest (limit (p.lines + 1))
+  neither : ((t : Triple) → SpellsTriple l.text t → ⊥) → (Empty l.text → ⊥) → LoadsLine limits p l rest (syntax (p.lines + 1))
 
 -- The load of the lines from the place on ends so. The first line that is refused decides.
 abbrev pub LoadsFrom : Limits → List Line → Place → Ending → Type 0
@@ -96,7 +96,7 @@ pub record LoadsNamed (limits : Limits) (text : List ℕ) (g : Graph) (n : Names
 -- one of the lines spells the triple
 abbrev pub SpelledIn : List Line → Triple → Type 0
 SpelledIn [] t = ⊥
-SpelledIn (l ∷ ls) t = Spells l.text t ⊎ SpelledIn ls t
+SpelledIn (l ∷ ls) t = SpellsTriple l.text t ⊎ SpelledIn ls t
 
 -- The graph with the names represents the triples that the lines of the text spell.
 abbrev pub RepresentsText : List ℕ → Graph → Names → Type 0

@@ -30,7 +30,7 @@ pub record AreCounts (exact : Exact) (c : Counts) (g : Graph) : Type 0 where
   pub labels_are : IsTrue exact.labels → c.labels ≡ length g.seen
 
 -- the step is accepted
-pub record IsTaken (exact : Exact) (c : Counts) (s : Step) (g : Graph) (limits : Limits) (t : Taken) : Type 0 where
+pub record IsTakenFrom (exact : Exact) (c : Counts) (s : Step) (g : Graph) (limits : Limits) (t : Taken) : Type 0 where
   -- the step is accepted
   pub accepted : apply_step s g limits ≡ Ok (made s g)
   -- what it names is there
@@ -46,7 +46,7 @@ pub record IsTaken (exact : Exact) (c : Counts) (s : Step) (g : Graph) (limits :
 -- what a step comes to
 abbrev pub StepComes : Exact → Counts → Step → Graph → Limits → Result Taken Refusal → Type 0
 StepComes exact c s g limits (Err r) = apply_step s g limits ≡ Err r
-StepComes exact c s g limits (Ok t) = IsTaken exact c s g limits t
+StepComes exact c s g limits (Ok t) = IsTakenFrom exact c s g limits t
 
 -- what the step at a place comes to, behind those before it
 abbrev pub ComesAt : Exact → Counts → List Asked → ℕ → Graph → Limits → Result Taken Refusal → Type 0

@@ -16,7 +16,7 @@ use Rattle.change_spec.proofs.StepPlaces.{graph_can}
 use Rattle.change_spec.proofs.Accepted.{applied_can, accepted_all}
 use Rattle.graph_steps.specs.NewChanges.{IsNew}
 use Rattle.graph_steps.proofs.IdleSteps.{idle_same}
-use Rattle.label_graph.specs.ReservedGraphs.{ReservedGraph, FitsLabels, FirstFitsLabels, none_reserved, is_pair, has_pair, has_text, without_pair, without_text}
+use Rattle.label_graph.specs.ReservedGraphs.{ReservedGraph, FitsLabels, FirstFitsLabels, none_reserved, is_pair, has_pair, without_pair, without_text}
 use Rattle.graph_update.specs.declared.staging.Plan.{Plan}
 use Rattle.graph_update.specs.declared.staging.Plan.TheVariants.{Node, Link, Unlink, Drop, Relabel}
 use Rattle.graph_update.specs.StagedChanges.{effective, needed_labels, needed_pairs, needed_relabels, plan_of, IsStaged, HasEffect, HaveEffect, ArePlanned, CanBeMade, IsMadeBy}
@@ -181,7 +181,7 @@ can_first (drop u ∷ ss) held p ps a =
 can_first (relabel u t ∷ ss) held p ps a =
     let f = first_plan p (Relabel u t) ps (map plan_of ss) a.plans_are in
     subst (λ q. CanBeMade q held) (sym f.0)
-    (ap (λ ts. has_text ts t) a.relabels ∙ ap (λ b. b || has_text (needed_relabels ss) t) (text_itself t), a.effect.0)
+    (ap (λ ts. is_seen ts t) a.relabels ∙ ap (λ b. b || is_seen (needed_relabels ss) t) (text_itself t), a.effect.0)
 
 -- what is left to be made, where these steps are to be made of that graph
 pub record AreLeft (e : List Step) (g : Graph) (held : ReservedGraph) (plans : List Plan) : Type 0 where

@@ -19,9 +19,9 @@ use Rattle.change_spec.proofs.ShownNeighbours.{unconcerned, edge_all, edge_parts
 use Rattle.change_spec.proofs.ShownCounts.{shown_cost}
 use Rattle.change_spec.proofs.StepPlaces.{live_given}
 use Rattle.graph_update.specs.PendingChanges.{lost_at}
-use Rattle.graph_update.specs.ShownNeighbours.{joins, shown_at, new_at, comes_at, concerned_at, with_first, is_fresh}
+use Rattle.graph_update.specs.ShownNeighbours.{leads_between, shown_at, new_at, comes_at, concerned_at, with_first, is_fresh}
 
-pub shown_list : (side : Side) (c : List Step) (g : Graph) (n : ℕ) (items : List ℕ) → Lists (joins side g n) items → Lists (joins side (after c g) n) (shown_at side c n items)
+pub shown_list : (side : Side) (c : List Step) (g : Graph) (n : ℕ) (items : List ℕ) → Lists (leads_between side g n) items → Lists (leads_between side (after c g) n) (shown_at side c n items)
 shown_list Parents c g n items l = shown_parents_list c g n items l
 shown_list Children c g n items l = shown_children_list c g n items l
 
@@ -30,13 +30,13 @@ new_are Parents c n m = new_parents_are c m n
 new_are Children c n m = new_children_are c n m
 
 -- whether the edge is there after the steps, by how it was before
-joins_after : (side : Side) (c : List Step) (g : Graph) (n m : ℕ) → joins side (after c g) n m ≡ ((joins side g n m && not (concerned_at side c n m)) || comes_at side c n m)
+joins_after : (side : Side) (c : List Step) (g : Graph) (n m : ℕ) → leads_between side (after c g) n m ≡ ((leads_between side g n m && not (concerned_at side c n m)) || comes_at side c n m)
 joins_after Parents c g n m = edge_all c g m n ∙ edge_parts c m n (has_edge g m n)
 joins_after Children c g n m = edge_all c g n m ∙ edge_parts c n m (has_edge g n m)
 
 -- what comes and wasn't there is what is there and wasn't
-fresh_same : (side : Side) (c : List Step) (g : Graph) (n m : ℕ) → (comes_at side c n m && not (joins side g n m)) ≡ (joins side (after c g) n m && not (joins side g n m))
-fresh_same side c g n m = bits (comes_at side c n m) (joins side g n m) (concerned_at side c n m) ∙ ap (λ b. b && not (joins side g n m)) (sym (joins_after side c g n m))
+fresh_same : (side : Side) (c : List Step) (g : Graph) (n m : ℕ) → (comes_at side c n m && not (leads_between side g n m)) ≡ (leads_between side (after c g) n m && not (leads_between side g n m))
+fresh_same side c g n m = bits (comes_at side c n m) (leads_between side g n m) (concerned_at side c n m) ∙ ap (λ b. b && not (leads_between side g n m)) (sym (joins_after side c g n m))
   where
     bits : (x a k : Bool) → (x && not a) ≡ (((a && not k) || x) && not a)
     bits true true true = refl
@@ -88,17 +88,17 @@ far_comes : (side : Side) (c : List Step) (n m : ℕ) → concerned_at side c n 
 far_comes Parents c n m h = unconcerned c m n false h
 far_comes Children c n m h = unconcerned c n m false h
 
-joins_bare : (side : Side) (c : List Step) (g : Graph) (n m : ℕ) → is_named c n ≡ false → is_dropped c m ≡ false → joins side (after c g) n m ≡ joins side g n m
+joins_bare : (side : Side) (c : List Step) (g : Graph) (n m : ℕ) → is_named c n ≡ false → is_dropped c m ≡ false → leads_between side (after c g) n m ≡ leads_between side g n m
 joins_bare side c g n m h k =
     let far = unnamed_far side c n m h k in
-    joins_after side c g n m ∙ ap (λ b. (joins side g n m && not b) || comes_at side c n m) far ∙ ap (λ b. (joins side g n m && not false) || b) (far_comes side c n m far) ∙ same (joins side g n m)
+    joins_after side c g n m ∙ ap (λ b. (leads_between side g n m && not b) || comes_at side c n m) far ∙ ap (λ b. (leads_between side g n m && not false) || b) (far_comes side c n m far) ∙ same (leads_between side g n m)
   where
     same : (a : Bool) → ((a && not false) || false) ≡ a
     same true = refl
     same false = refl
 
 -- its neighbours stay
-pub bare_list : (side : Side) (c : List Step) (g : Graph) (n : ℕ) (items : List ℕ) → is_named c n ≡ false → ((m : ℕ) → is_dropped c m ≡ false) → Lists (joins side g n) items → Lists (joins side (after c g) n) items
+pub bare_list : (side : Side) (c : List Step) (g : Graph) (n : ℕ) (items : List ℕ) → is_named c n ≡ false → ((m : ℕ) → is_dropped c m ≡ false) → Lists (leads_between side g n) items → Lists (leads_between side (after c g) n) items
 bare_list side c g n items h k l = record { once = l.once; members = λ m. l.members m ∙ sym (joins_bare side c g n m h (k m)) }
 
 -- ---- what it costs to show neighbours
@@ -110,31 +110,31 @@ distinct_nothing = tt
 nothing : (p : ℕ → Bool) → ((m : ℕ) → p m ≡ false) → Lists p []
 nothing p none = record { once = distinct_nothing; members = λ m. sym (none m) }
 
-bare_graph : (side : Side) (n m : ℕ) → joins side empty_graph n m ≡ false
+bare_graph : (side : Side) (n m : ℕ) → leads_between side empty_graph n m ≡ false
 bare_graph Parents n m = set.contains-empty edge_cmp (m, n)
 bare_graph Children n m = set.contains-empty edge_cmp (n, m)
 
 -- the neighbours that come, each once
 new_list : (side : Side) (c : List Step) (n : ℕ) → Lists (comes_at side c n) (new_at side c n)
 new_list side c n = record {
-  once = (shown_list side c empty_graph n [] (nothing (joins side empty_graph n) (bare_graph side n))).once;
+  once = (shown_list side c empty_graph n [] (nothing (leads_between side empty_graph n) (bare_graph side n))).once;
   members = new_are side c n;
 }
 
-comes_joins : (side : Side) (c : List Step) (g : Graph) (n m : ℕ) → comes_at side c n m ≡ true → joins side (after c g) n m ≡ true
-comes_joins side c g n m h = joins_after side c g n m ∙ ap (λ b. (joins side g n m && not (concerned_at side c n m)) || b) h ∙ or-true (joins side g n m && not (concerned_at side c n m))
+comes_joins : (side : Side) (c : List Step) (g : Graph) (n m : ℕ) → comes_at side c n m ≡ true → leads_between side (after c g) n m ≡ true
+comes_joins side c g n m h = joins_after side c g n m ∙ ap (λ b. (leads_between side g n m && not (concerned_at side c n m)) || b) h ∙ or-true (leads_between side g n m && not (concerned_at side c n m))
 
-joins_given : (side : Side) (g : Graph) (n k : ℕ) → IsGraph g → joins side g n k ≡ true → k < length g.allocated
+joins_given : (side : Side) (g : Graph) (n k : ℕ) → IsGraph g → leads_between side g n k ≡ true → k < length g.allocated
 joins_given Parents g n k s h = live_given g k (s.from k n h)
 joins_given Children g n k s h = live_given g k (s.onto n k h)
 
-joins_live : (side : Side) (g : Graph) (n k : ℕ) → IsGraph g → joins side g n k ≡ true → is_live g n ≡ true
+joins_live : (side : Side) (g : Graph) (n k : ℕ) → IsGraph g → leads_between side g n k ≡ true → is_live g n ≡ true
 joins_live Parents g n k s h = s.onto k n h
 joins_live Children g n k s h = s.from n k h
 
 -- a node that isn't live has no neighbours
-pub dead_list : (side : Side) (g : Graph) (n : ℕ) → IsGraph g → is_live g n ≡ false → Lists (joins side g n) []
-dead_list side g n s dead = nothing (joins side g n) (λ m. elim (cases_Bool (joins side g n m)) [
+pub dead_list : (side : Side) (g : Graph) (n : ℕ) → IsGraph g → is_live g n ≡ false → Lists (leads_between side g n) []
+dead_list side g n s dead = nothing (leads_between side g n) (λ m. elim (cases_Bool (leads_between side g n m)) [
   | inl on ↦ absurd (true≢false (sym (joins_live side g n m s on) ∙ dead))
   | inr off ↦ off
 ])
@@ -150,43 +150,43 @@ count_past (suc n) m p h off = elim (cases_lt m (suc n)) [
 ]
 
 lost_past : (side : Side) (c : List Step) (g : Graph) (n : ℕ) → IsGraph g
-    → count_below (length (after c g).allocated) (λ k. joins side g n k && not (joins side (after c g) n k)) ≡ lost_at side (record { before = g; change = c }) n
-lost_past Parents c g n s = count_past (length (after c g).allocated) (length g.allocated) (λ k. joins Parents g n k && not (joins Parents (after c g) n k)) (given_all c g) (λ k past. elim (cases_Bool (joins Parents g n k)) [
+    → count_below (length (after c g).allocated) (λ k. leads_between side g n k && not (leads_between side (after c g) n k)) ≡ lost_at side (record { before = g; change = c }) n
+lost_past Parents c g n s = count_past (length (after c g).allocated) (length g.allocated) (λ k. leads_between Parents g n k && not (leads_between Parents (after c g) n k)) (given_all c g) (λ k past. elim (cases_Bool (leads_between Parents g n k)) [
   | inl on ↦ absurd (let b = joins_given Parents g n k s on in omega (arith, b, past))
-  | inr off ↦ ap (λ b. b && not (joins Parents (after c g) n k)) off
+  | inr off ↦ ap (λ b. b && not (leads_between Parents (after c g) n k)) off
 ])
-lost_past Children c g n s = count_past (length (after c g).allocated) (length g.allocated) (λ k. joins Children g n k && not (joins Children (after c g) n k)) (given_all c g) (λ k past. elim (cases_Bool (joins Children g n k)) [
+lost_past Children c g n s = count_past (length (after c g).allocated) (length g.allocated) (λ k. leads_between Children g n k && not (leads_between Children (after c g) n k)) (given_all c g) (λ k past. elim (cases_Bool (leads_between Children g n k)) [
   | inl on ↦ absurd (let b = joins_given Children g n k s on in omega (arith, b, past))
-  | inr off ↦ ap (λ b. b && not (joins Children (after c g) n k)) off
+  | inr off ↦ ap (λ b. b && not (leads_between Children (after c g) n k)) off
 ])
 
 -- Some neighbours come, and hold all that weren't there: so many more than were there are shown, and lost.
 side_cost : (side : Side) (c : List Step) (g : Graph) (n : ℕ) (items shown come : List ℕ) (new : ℕ → Bool) → IsGraph g → IsGraph (after c g)
-    → Lists (joins side g n) items → Lists (joins side (after c g) n) shown → Lists new come → ((k : ℕ) → new k ≡ true → joins side (after c g) n k ≡ true)
-    → ((k : ℕ) → (new k && not (joins side g n k)) ≡ (joins side (after c g) n k && not (joins side g n k)))
+    → Lists (leads_between side g n) items → Lists (leads_between side (after c g) n) shown → Lists new come → ((k : ℕ) → new k ≡ true → leads_between side (after c g) n k ≡ true)
+    → ((k : ℕ) → (new k && not (leads_between side g n k)) ≡ (leads_between side (after c g) n k && not (leads_between side g n k)))
     → length items + tally (is_fresh side g n) come ≡ length shown + lost_at side (record { before = g; change = c }) n
 side_cost side c g n items shown come new s s2 li ls lc within same =
     let more = given_all c g in
-    let law = shown_cost (length (after c g).allocated) (joins side g n) (joins side (after c g) n) new items shown come li ls lc
+    let law = shown_cost (length (after c g).allocated) (leads_between side g n) (leads_between side (after c g) n) new items shown come li ls lc
     (λ k h. (let b = joins_given side g n k s h in omega (arith, b, more))) (λ k h. joins_given side (after c g) n k s2 h) (λ k h. joins_given side (after c g) n k s2 (within k h)) same in
     let lost = lost_past side c g n s in
     omega (arith, law, lost)
 
-pub shown_paid : (side : Side) (c : List Step) (g : Graph) (n : ℕ) (items : List ℕ) → IsGraph g → IsGraph (after c g) → Lists (joins side g n) items
+pub shown_paid : (side : Side) (c : List Step) (g : Graph) (n : ℕ) (items : List ℕ) → IsGraph g → IsGraph (after c g) → Lists (leads_between side g n) items
     → length items + tally (is_fresh side g n) (new_at side c n) ≡ length (shown_at side c n items) + lost_at side (record { before = g; change = c }) n
 shown_paid side c g n items s s2 l =
     side_cost side c g n items (shown_at side c n items) (new_at side c n) (comes_at side c n) s s2 l (shown_list side c g n items l) (new_list side c n)
     (comes_joins side c g n) (fresh_same side c g n)
 
 pub bare_paid : (side : Side) (c : List Step) (g : Graph) (n : ℕ) (items : List ℕ) → is_named c n ≡ false → IsGraph g → IsGraph (after c g)
-    → Lists (joins side g n) items → Lists (joins side (after c g) n) items → length items ≡ length items + lost_at side (record { before = g; change = c }) n
+    → Lists (leads_between side g n) items → Lists (leads_between side (after c g) n) items → length items ≡ length items + lost_at side (record { before = g; change = c }) n
 bare_paid side c g n items h s s2 l l2 =
     let law = side_cost side c g n items items (new_at side c n) (comes_at side c n) s s2 l l2 (new_list side c n) (comes_joins side c g n) (fresh_same side c g n) in
     let none = ap (tally (is_fresh side g n)) (unnamed_new side c n h) in
     omega (arith, law, none)
 
-pub dead_paid : (side : Side) (c : List Step) (g : Graph) (n : ℕ) (items : List ℕ) → is_live (after c g) n ≡ false → IsGraph g → IsGraph (after c g) → Lists (joins side g n) items
+pub dead_paid : (side : Side) (c : List Step) (g : Graph) (n : ℕ) (items : List ℕ) → is_live (after c g) n ≡ false → IsGraph g → IsGraph (after c g) → Lists (leads_between side g n) items
     → length items ≡ lost_at side (record { before = g; change = c }) n
 dead_paid side c g n items dead s s2 l =
-    let law = side_cost side c g n items [] [] (joins side (after c g) n) s s2 l (dead_list side (after c g) n s2 dead) (dead_list side (after c g) n s2 dead) (λ k h. h) (λ k. refl) in
+    let law = side_cost side c g n items [] [] (leads_between side (after c g) n) s s2 l (dead_list side (after c g) n s2 dead) (dead_list side (after c g) n s2 dead) (λ k h. h) (λ k. refl) in
     omega (arith, law)

@@ -9,9 +9,9 @@ use Rattle.change_spec.specs.Named.{is_dropped}
 use Rattle.change_spec.specs.EdgesAfter.{concerns, concerned, new_parents, new_children, edge_after}
 
 -- an edge joins n to m, which is its neighbour on this side
-abbrev pub joins : Side → Graph → ℕ → ℕ → Bool
-joins Parents g n m = has_edge g m n
-joins Children g n m = has_edge g n m
+abbrev pub leads_between : Side → Graph → ℕ → ℕ → Bool
+leads_between Parents g n m = has_edge g m n
+leads_between Children g n m = has_edge g n m
 
 -- the step concerns that edge
 abbrev pub concerns_at : Side → Step → ℕ → ℕ → Bool
@@ -58,7 +58,7 @@ comes_at Children c n m = edge_after c n m false
 
 -- whether n hasn't that neighbour
 abbrev pub is_fresh : Side → Graph → ℕ → ℕ → Bool
-is_fresh side g n m = not (joins side g n m)
+is_fresh side g n m = not (leads_between side g n m)
 
 -- of these neighbours those that no step concerns
 abbrev pub kept_at : Side → List Step → ℕ → List ℕ → List ℕ

@@ -1,10 +1,10 @@
 -- A change that is staged, and what it does once it is made.
 use Rattle.std.specs.Prelude.{◌≡◌, ℕ, ◌-◌, ◌<◌, ◌^◌, true, false, ⊤, List, [], ◌∷◌, length, map, if◌then◌else◌, IsTrue}
 use Rattle.std.specs.FinSet as set
-use Rattle.graph_spec.specs.Graphs.{Graph, is_live, has_edge}
+use Rattle.graph_spec.specs.Graphs.{Graph, is_live, has_edge, is_seen}
 use Rattle.graph_spec.specs.Changes.{with_edge, without_edge}
 use Rattle.change_spec.specs.Steps.{Step, node, link, unlink, drop, relabel, made, is_idle, after, without_node, labelled}
-use Rattle.label_graph.specs.ReservedGraphs.{ReservedGraph, FitsLabels, FirstFitsLabels, AddsReserved, without_reserved_pair, without_reserved_relabel, has_pair, has_text}
+use Rattle.label_graph.specs.ReservedGraphs.{ReservedGraph, FitsLabels, FirstFitsLabels, AddsReserved, without_reserved_pair, without_reserved_relabel, has_pair}
 use Rattle.graph_update.specs.declared.staging.Applied.{Applied}
 use Rattle.graph_update.specs.declared.staging.Plan.{Plan}
 use Rattle.graph_update.specs.declared.staging.Plan.TheVariants.{Node, Link, Unlink, Drop, Relabel}
@@ -92,7 +92,7 @@ CanBeMade Node held = (0 < length held.reserved.labels) × (length held.graph.al
 CanBeMade (Link u v) held = IsTrue (has_pair held.reserved.pairs u v) × HasEffect (link u v) held.graph
 CanBeMade (Unlink u v) held = has_edge held.graph u v ≡ true
 CanBeMade (Drop u) held = IsTrue (is_live held.graph u)
-CanBeMade (Relabel u t) held = IsTrue (has_text held.reserved.relabels t) × HasEffect (relabel u t) held.graph
+CanBeMade (Relabel u t) held = IsTrue (is_seen held.reserved.relabels t) × HasEffect (relabel u t) held.graph
 
 -- what is made of it
 abbrev pub IsMadeBy : Plan → ReservedGraph → ReservedGraph → Type 0

@@ -14,7 +14,7 @@ ghost use Rattle.change_spec.specs.Named.{takes_away, is_dropped};
 ghost use Rattle.graph_steps.specs.StepLists.{step_of, steps_of};
 ghost use Rattle.graph_steps.specs.NamedSteps.{DropsLast};
 ghost use Rattle.graph_steps.specs.NewChanges.{IsNew};
-ghost use Rattle.graph_update.specs.ShownNeighbours.{joins};
+ghost use Rattle.graph_update.specs.ShownNeighbours.{leads_between};
 ghost use Rattle.graph_update.specs.PendingChanges.{graph_after, lost_at, is_added, AreAhead, IsShownPast};
 
 use crate::neighbours::{Neighbours, fresh_count};
@@ -206,8 +206,8 @@ impl<'a> After<'a> {
         n: NodeId,
         steps: &mut Steps<L>,
     ) -> Neighbours<'_>
-        requires lists { Lists (joins side self.now.before n) items.now }
-        ensures neighbours { Lists (joins side (graph_after self.now) n) result }
+        requires lists { Lists (leads_between side self.now.before n) items.now }
+        ensures neighbours { Lists (leads_between side (graph_after self.now) n) result }
         ensures cost { steps.new + length items.now ≡ steps.old + length result + lost_at side self.now n }
     {
         if !self.drops && !self.change.may_name(n) {

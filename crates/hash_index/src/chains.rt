@@ -69,7 +69,7 @@ fn link<T>(slots: &mut Vec<Slot<T>>, heads: &mut Vec<u32>, n: usize)
 }
 
 // Doubles the number of buckets where there are no more of them than items.
-pub(crate) fn make_room<T>(slots: &mut Vec<Slot<T>>, heads: &mut Vec<u32>) -> Result<(), Memory>
+pub(crate) fn grow_buckets<T>(slots: &mut Vec<Slot<T>>, heads: &mut Vec<u32>) -> Result<(), Memory>
     requires linked { AreChains (length slots.old.items) (hashes_of slots.old.items) (links_of slots.old.items) heads.old.items }
     requires few { length slots.old.items < 2 ^ 31 }
     requires some { 0 < length heads.old.items }

@@ -4,7 +4,7 @@ ghost use Rattle.hash_index.specs.Items.{no_items, with_item, hash_at, IsNewest}
 ghost use Rattle.hash_index.specs.Slots.{hashes_of, links_of, items_of};
 ghost use Rattle.hash_index.specs.HashChains.{IsIndex};
 
-use crate::chains::{along, bucket, make_room, read_head, set_head};
+use crate::chains::{along, bucket, grow_buckets, read_head, set_head};
 use crate::slots::{Slot, push_slot, read_hash, read_item, read_link};
 use px_base::Memory;
 use std::alloc::Global;
@@ -99,7 +99,7 @@ impl<T: Copy> HashIndex<T> {
 
     /// The number at the head of a hash's chain, whatever its own hash is. It is needed only to read ahead. O(1), no memory.
     #[inline(always)]
-    pub fn front(&self, hash: u32) -> Option<u32>
+    pub fn head(&self, hash: u32) -> Option<u32>
         ensures { IfSome result (λ n. n < length self.now.items) }
     {
         read_head(&self.heads, bucket(&self.heads, hash)).checked_sub(1)
@@ -122,7 +122,7 @@ impl<T: Copy> HashIndex<T> {
         ensures ok { OnOk result (self.new ≡ with_item self.old hash item) }
         ensures err { OnErr result (self.new ≡ self.old) }
     {
-        make_room(&mut self.slots, &mut self.heads)?;
+        grow_buckets(&mut self.slots, &mut self.heads)?;
         add(&mut self.slots, &mut self.heads, hash, item)
     }
 

@@ -22,6 +22,6 @@ fn numbers_with_a_hash_come_newest_first(rt: HostRuntime) -> Result<(), Fail> {
     assert_eq!(rt; index.older(14), None);
     assert_eq!(rt; index.newest(50), None);
     assert_eq!(rt; index.from(15, 7), Some(15));
-    assert_eq!(rt; index.front(7).is_some(), true);
+    assert_eq!(rt; index.head(7).is_some(), true);
     Ok(())
 }

@@ -11,13 +11,13 @@ use Rattle.bisim_spec.specs.Partitions.{IsPartition}
 use Rattle.index_api.specs.declared.kinds.Via.{Via}
 use Rattle.index_api.specs.declared.kinds.Via.TheVariants.{Data, A, One, Fb, B}
 use Rattle.index_file.specs.SavedFiles.{SavedFile, SavedView}
-use Rattle.index_file.specs.SavedGraphs.{index_of, blocks_of, via_at, blocks_at}
-use Rattle.index_file.specs.FittingViews.{FitsVia, FitsSaved, FitsView}
+use Rattle.index_file.specs.SavedGraphs.{via_of_view, blocks_of, via_at, blocks_at}
+use Rattle.index_file.specs.FittingViews.{IsPartitionVia, FitsSaved, FitsView}
 use Rattle.round_refinement.specs.NumberedShapes.{shape_by_number}
 use Rattle.index_check.proofs.Renamed.{with_labels, Renames, partition_renamed, level_renamed, both_level_renamed, full_renamed, stable_renamed, minimal_renamed}
 
 via_renamed : (size : ℕ) (edge : ℕ → ℕ → Bool) (f g : ℕ → Option (List ℕ)) → Renames size edge f g → Renames size edge g f → (via : Via) (block : List (Option ℕ))
-    → FitsVia (with_labels size edge f) via block → FitsVia (with_labels size edge g) via block
+    → IsPartitionVia (with_labels size edge f) via block → IsPartitionVia (with_labels size edge g) via block
 via_renamed size edge f g to back Data block h = h
 via_renamed size edge f g to back (A level) block h = level_renamed size edge f g to back block level h
 via_renamed size edge f g to back One block h = record {
@@ -72,7 +72,7 @@ to_numbers size edge label texts once u v h =
 -- so it is told by the numbers of the labels, whatever their texts are
 pub told_by_numbers : (size : ℕ) (edge : ℕ → ℕ → Bool) (label : ℕ → Option ℕ) (texts : List (List ℕ)) (via : Via) (block : List (Option ℕ)) → IsDistinct bytes_eq texts
     → ((n l : ℕ) → label n ≡ Some l → l < length texts)
-    → FitsVia (shape_by_number size label edge) via block ↔ FitsVia (shape_by texts size label edge) via block
+    → IsPartitionVia (shape_by_number size label edge) via block ↔ IsPartitionVia (shape_by texts size label edge) via block
 told_by_numbers size edge label texts via block once within = (
   via_renamed size edge (by_number label) (by_text texts label) (to_texts size edge label texts within) (to_numbers size edge label texts once) via block,
   via_renamed size edge (by_text texts label) (by_number label) (to_numbers size edge label texts once) (to_texts size edge label texts within) via block,
@@ -87,10 +87,10 @@ module _ (g : Graph) (graph : IsGraph g) (shape : numbered_shape g ≡ shape_of 
       by None h = absurd (let z : None ≡ Some l = h in cc)
       by (Some t) h = slice_get_within g.seen l t (text-at t g.seen l h)
 
-  pub via_told : (via : Via) (block : List (Option ℕ)) → FitsVia (shape_by_number (length g.allocated) (label_number g) (is_linked g)) via block ↔ FitsVia (shape_of g) via block
+  pub via_told : (via : Via) (block : List (Option ℕ)) → IsPartitionVia (shape_by_number (length g.allocated) (label_number g) (is_linked g)) via block ↔ IsPartitionVia (shape_of g) via block
   via_told via block =
       let both = told_by_numbers (length g.allocated) (is_linked g) (label_number g) g.seen via block graph.distinct number_below in
-      (λ h. subst (λ s. FitsVia s via block) shape (both.0 h), λ h. both.1 (subst (λ s. FitsVia s via block) (sym shape) h))
+      (λ h. subst (λ s. IsPartitionVia s via block) shape (both.0 h), λ h. both.1 (subst (λ s. IsPartitionVia s via block) (sym shape) h))
 
   pub partition_told : (block : List (Option ℕ)) → IsPartition (shape_of g) block → IsPartition (shape_by_number (length g.allocated) (label_number g) (is_linked g)) block
   partition_told block p =
@@ -100,15 +100,15 @@ module _ (g : Graph) (graph : IsGraph g) (shape : numbered_shape g ≡ shape_of 
       (subst (λ s. IsPartition s block) (sym shape) p)
 
 -- the view at a place
-pub view_told : (file : SavedFile) (j : ℕ) (via : Via) → via_at file j ≡ Some via → FitsVia (shape_of file.graph) via (blocks_at file j) ↔ FitsView file j
+pub view_told : (file : SavedFile) (j : ℕ) (via : Via) → via_at file j ≡ Some via → IsPartitionVia (shape_of file.graph) via (blocks_at file j) ↔ FitsView file j
 view_told file j via e = by (slice_get file.views j) refl
   where
     same : (a b : Via) → Some a ≡ Some b → a ≡ b
     same a b s = cc
 
-    at_place : (o : Option SavedView) → index_of o ≡ Some via → FitsVia (shape_of file.graph) via (blocks_of o) ↔ FitsSaved file o
+    at_place : (o : Option SavedView) → via_of_view o ≡ Some via → IsPartitionVia (shape_of file.graph) via (blocks_of o) ↔ FitsSaved file o
     at_place None h = absurd (let z : None ≡ Some via = h in cc)
-    at_place (Some v) h = (let s = same v.via via h in (λ f. subst (λ w. FitsVia (shape_of file.graph) w v.block_of) (sym s) f, λ f. subst (λ w. FitsVia (shape_of file.graph) w v.block_of) s f))
+    at_place (Some v) h = (let s = same v.via via h in (λ f. subst (λ w. IsPartitionVia (shape_of file.graph) w v.block_of) (sym s) f, λ f. subst (λ w. IsPartitionVia (shape_of file.graph) w v.block_of) s f))
 
-    by : (o : Option SavedView) → slice_get file.views j ≡ o → FitsVia (shape_of file.graph) via (blocks_at file j) ↔ FitsView file j
-    by o h = subst (λ x. FitsVia (shape_of file.graph) via (blocks_of x) ↔ FitsSaved file x) (sym h) (at_place o (ap index_of (sym h) ∙ e))
+    by : (o : Option SavedView) → slice_get file.views j ≡ o → IsPartitionVia (shape_of file.graph) via (blocks_at file j) ↔ FitsView file j
+    by o h = subst (λ x. IsPartitionVia (shape_of file.graph) via (blocks_of x) ↔ FitsSaved file x) (sym h) (at_place o (ap via_of_view (sym h) ∙ e))

@@ -1,7 +1,7 @@
 // Whether the views of a file fit its graph.
 ghost use Rattle.std.specs.Prelude.{◌≡◌, ◌<◌, ◌↔◌, length, IfOk, IsTrue};
 ghost use Rattle.bisim_spec.specs.Partitions.{IsPartition};
-ghost use Rattle.index_file.specs.FittingViews.{FitsVia, FitsView, IsStableMinimal};
+ghost use Rattle.index_file.specs.FittingViews.{IsPartitionVia, FitsView, IsStableMinimal};
 ghost use Rattle.index_file.specs.SavedGraphs.{blocks_at};
 ghost use Rattle.round_refinement.specs.NumberedShapes.{digraph_shape};
 
@@ -40,7 +40,7 @@ fn fits_via<G: Digraph>(
     block: &[Option<u32>],
 ) -> Result<bool, Memory>
     requires partition { IsPartition (digraph_shape G.Digraph g.now) block.now }
-    ensures { IfOk result (λ yes. IsTrue yes ↔ FitsVia (digraph_shape G.Digraph g.now) via block.now) }
+    ensures { IfOk result (λ yes. IsTrue yes ↔ IsPartitionVia (digraph_shape G.Digraph g.now) via block.now) }
 {
     match via {
         Via::Data => Ok(false),

@@ -10,7 +10,7 @@ use Rattle.std.proofs.lemmas.List.Sums.{prefix_len_is}
 use Rattle.std.proofs.lemmas.Str.{digit_value_digit}
 use Rattle.std.proofs.lemmas.Int.Digits.{digits_value_more}
 use Rattle.index_file.specs.FoundNumbers.{saturated, digits_ahead, after_digits, IsFound}
-use Rattle.index_file.specs.Statements.{is_decimal, number_of, IsNumber}
+use Rattle.index_file.specs.Statements.{is_decimal, decimal_value, IsNumber}
 
 pub past : (x : ℕ) → 1000000000000000000 < x → saturated x ≡ 1000000000000000000
 past x l = elim (cases_Bool (nat_le x 1000000000000000000)) [
@@ -80,11 +80,11 @@ back_none (d ∷ ds) h =
 pub front_all : (text : List ℕ) → after_digits text ≡ [] → digits_ahead text ≡ text
 front_all text e = sym (append-nil (digits_ahead text)) ∙ ap (λ r. digits_ahead text ++ r) (sym e) ∙ take-append-drop (prefix_len is_ascii_digit text) text
 
-pub number_is : (digits : List ℕ) → is_decimal digits ≡ true → number_of digits ≡ Some (digits_value 10 digits)
+pub number_is : (digits : List ℕ) → is_decimal digits ≡ true → decimal_value digits ≡ Some (digits_value 10 digits)
 number_is digits h = rw h refl
 
 pub no_number : (digits : List ℕ) (n : ℕ) → is_decimal digits ≡ false → IsNumber digits n → ⊥
-no_number digits n off e = (let z : number_of digits ≡ None = rw off refl in let y = sym z ∙ e in cc)
+no_number digits n off e = (let z : decimal_value digits ≡ None = rw off refl in let y = sym z ∙ e in cc)
 
 pub some_one : (a b : ℕ) → Some a ≡ Some b → b ≡ a
 some_one a b e = cc

@@ -7,17 +7,17 @@ use Rattle.path_query.specs.Labels.{SpellsLabel}
 use Rattle.index_api.specs.declared.kinds.Via.{Via}
 use Rattle.index_api.specs.declared.kinds.Via.TheVariants.{Data, A, One, Fb, B}
 use Rattle.index_file.specs.declared.due.Due.{Due}
-use Rattle.index_file.specs.declared.due.Due.TheVariants.{Title, Given, Nodes, Edges, Ranks}
+use Rattle.index_file.specs.declared.due.Due.TheVariants.{Title, Allocated, Nodes, Edges, Ranks}
 use Rattle.index_file.specs.FoundNumbers.{saturated, IsFound, AreFound}
 use Rattle.index_file.specs.NamedIndexes.{IsNamed, IsTooHigh}
 use Rattle.index_file.specs.SavedFiles.{seen_of}
-use Rattle.index_file.specs.Statements.{given, live, gone, edges, edge, views, view, rank, HasPrefix, AreNumbers, IsNumber, NamesIndex}
-use Rattle.index_file.specs.Readings.{Reading, RankedView, last_of, is_live_in, live_in, is_behind, follows, last_via, with_rank, can_take_edge, can_take_view, take_given, take_edge, take_view}
+use Rattle.index_file.specs.Statements.{allocated, live, gone, edges, edge, views, view, rank, HasPrefix, AreNumbers, IsNumber, NamesIndex}
+use Rattle.index_file.specs.Readings.{Reading, RankedView, last_of, is_live_in, live_in, is_behind, follows, last_via, with_rank, can_take_edge, can_take_view, take_allocated, take_edge, take_view}
 use Rattle.index_file.specs.ReadLabels.{IsOneTooMany, is_too_many}
 use Rattle.index_file.specs.ReadEdges.{AreReadEdges}
 use Rattle.index_file.specs.ReadViews.{last_ranks, HaveRanks, most_views}
 use Rattle.index_file.specs.Drafts.{IsDraft, FitDue, nodes_left, ranks_left, edges_left}
-use Rattle.index_file.specs.Reads.{IsTaken, IsOver, IsWrong}
+use Rattle.index_file.specs.Reads.{IsTaken, ExceedsAt, IsWrong}
 use Rattle.index_file.proofs.DecimalLaws.{past, number_same, number_above}
 use Rattle.index_file.proofs.WordLaws.{behind_one}
 use Rattle.index_file.proofs.ReadNodeLaws.{live_below, not_live, live_few}
@@ -34,23 +34,23 @@ last_read (x ∷ y ∷ ys) =
     ap (slice_get (x ∷ y ∷ ys)) e ∙ last_read (y ∷ ys)
 
 -- the line of the numbers that were allocated
-module _ (limits : Limits) (line : List ℕ) (old : Reading) (due : old.due ≡ Given) (p : ℕ × ℕ)
+module _ (limits : Limits) (line : List ℕ) (old : Reading) (due : old.due ≡ Allocated) (p : ℕ × ℕ)
     (f : AreFound (λ n k. HasPrefix (codes "given ") line (λ rest. AreNumbers (codes " k ") rest n k)) p) where
   pub given_taken : (new : Reading) → p.0 ≤ limits.nodes → p.0 ≤ 4294967295 → p.1 ≤ 8 → new ≡ record old { due = Nodes p.0; k = p.1 } → IsTaken limits line old new
   given_taken new within few low e =
       let n : f.first ≡ p.0 = number_same p.0 f.first f.are.0 (omega (arith, few)) in
       let k : f.second ≡ p.1 = number_same p.1 f.second f.are.1 (omega (arith, low)) in
-      taken_at limits line old new Given (given f.first f.second) due f.hold
+      taken_at limits line old new Allocated (allocated f.first f.second) due f.hold
       (ap (nat_lt limits.nodes) n ∙ le-ltb limits.nodes p.0 within)
-      (ap (λ m. take_given m f.second old) n ∙ ap (λ m. take_given p.0 m old) k ∙ ap (λ b. if b then Some (record old { due = Nodes p.0; k = p.1 }) else None) (le-leb p.1 8 low) ∙ ap Some (sym e))
+      (ap (λ m. take_allocated m f.second old) n ∙ ap (λ m. take_allocated p.0 m old) k ∙ ap (λ b. if b then Some (record old { due = Nodes p.0; k = p.1 }) else None) (le-leb p.1 8 low) ∙ ap Some (sym e))
 
-  pub given_over : limits.nodes < p.0 → IsOver limits line old
-  given_over many = over_at limits line old Given (given f.first f.second) due f.hold (lt-ltb limits.nodes f.first (number_above p.0 f.first limits.nodes f.are.0 many))
+  pub given_over : limits.nodes < p.0 → ExceedsAt limits line old
+  given_over many = over_at limits line old Allocated (allocated f.first f.second) due f.hold (lt-ltb limits.nodes f.first (number_above p.0 f.first limits.nodes f.are.0 many))
 
   pub given_wrong : p.0 ≤ limits.nodes → p.0 < 1000000000000000000 → 8 < p.1 → IsWrong limits line old
   given_wrong within few high = wrong_given limits line old due (λ n k h. at n k (f.only n k h))
     where
-      at : (n k : ℕ) → (n ≡ f.first) × (k ≡ f.second) → IsFalse (nat_lt limits.nodes n) × (take_given n k old ≡ None)
+      at : (n k : ℕ) → (n ≡ f.first) × (k ≡ f.second) → IsFalse (nat_lt limits.nodes n) × (take_allocated n k old ≡ None)
       at n k (first, second) =
           let same : n ≡ p.0 = first ∙ number_same p.0 f.first f.are.0 few in
           let above : 8 < k = (let a = number_above p.1 f.second 8 f.are.1 high in omega (arith, a, second)) in
@@ -66,7 +66,7 @@ module _ (limits : Limits) (line : List ℕ) (old : Reading) (due : old.due ≡ 
       (ap (nat_lt limits.edges) n ∙ le-ltb limits.edges count within)
       (ap (λ m. Some (record old { due = Edges m })) n ∙ ap Some (sym e))
 
-  pub edge_count_over : limits.edges < count → IsOver limits line old
+  pub edge_count_over : limits.edges < count → ExceedsAt limits line old
   edge_count_over many = over_at limits line old (Nodes 0) (edges f.number) due f.holds (lt-ltb limits.edges f.number (number_above count f.number limits.edges f.is many))
 
 -- the line of the number of views
@@ -83,7 +83,7 @@ live_taken limits word old new left t due spells within e =
     taken_at limits (codes "live " ++ word) old new (Nodes (suc left)) (live t) due (word, refl, spells) within (ap Some (sym e))
 
 pub live_over : (limits : Limits) (word : List ℕ) (old : Reading) (left : ℕ) → old.due ≡ Nodes (suc left)
-    → IsOneTooMany word limits.labels (seen_of old.allocated) → IsOver limits (codes "live " ++ word) old
+    → IsOneTooMany word limits.labels (seen_of old.allocated) → ExceedsAt limits (codes "live " ++ word) old
 live_over limits word old left due o = over_at limits (codes "live " ++ word) old (Nodes (suc left)) (live o.label) due (word, refl, o.spelled) o.over
 
 pub live_wrong : (limits : Limits) (word : List ℕ) (old : Reading) (left : ℕ) → old.due ≡ Nodes (suc left)
@@ -267,7 +267,7 @@ module _ (old : Reading) (d : IsDraft old) where
   views_at : (due : Due) → old.due ≡ due → FitDue due (live_in old.allocated) old.views
   views_at due e = subst (λ x. FitDue x (live_in old.allocated) old.views) e d.views
 
-  pub draft_title : old.due ≡ Title → IsDraft (record old { due = Given })
+  pub draft_title : old.due ≡ Title → IsDraft (record old { due = Allocated })
   draft_title due =
       let nodes : nodes_left old.due ≡ 4294967295 = ap nodes_left due in
       let edges : edges_left old.due ≡ 4294967295 = ap edges_left due in
@@ -281,7 +281,7 @@ module _ (old : Reading) (d : IsDraft old) where
         views = views_at Title due;
       }
 
-  pub draft_given : (n k : ℕ) → old.due ≡ Given → n ≤ 4294967295 → k ≤ 8 → IsDraft (record old { due = Nodes n; k = k })
+  pub draft_given : (n k : ℕ) → old.due ≡ Allocated → n ≤ 4294967295 → k ≤ 8 → IsDraft (record old { due = Nodes n; k = k })
   draft_given n k due few low =
       let nodes : nodes_left old.due ≡ 4294967295 = ap nodes_left due in
       let edges : edges_left old.due ≡ 4294967295 = ap edges_left due in
@@ -292,7 +292,7 @@ module _ (old : Reading) (d : IsDraft old) where
         few_edges = omega (arith, edges_few, edges);
         few_views = d.few_views;
         edges = d.edges;
-        views = views_at Given due;
+        views = views_at Allocated due;
       }
 
   pub draft_node : (left : ℕ) (nodes : List (Option (List ℕ))) (o : Option (List ℕ)) → old.due ≡ Nodes (suc left) → nodes ≡ old.allocated ++ o ∷ []

@@ -6,7 +6,7 @@ use Rattle.graph_spec.specs.Lines.{cut}
 use Rattle.index_api.specs.declared.kinds.Via.{Via}
 use Rattle.index_api.specs.declared.kinds.Via.TheVariants.{Data, A, One, Fb, B}
 use Rattle.index_file.specs.SavedFiles.{seen_of, ranks_at}
-use Rattle.index_file.specs.Statements.{Statement, title, given, live, gone, edges, edge, views, view, rank, number_of, Says}
+use Rattle.index_file.specs.Statements.{Statement, title, allocated, live, gone, edges, edge, views, view, rank, decimal_value, Says}
 use Rattle.index_file.specs.declared.due.Due.TheVariants as due
 use Rattle.index_file.specs.Readings.{Reading, RankedView, nothing_read, next_reading, exceeds, is_complete, view_in}
 
@@ -26,7 +26,7 @@ b = codes "b"
 
 -- three nodes, of which the first is the parent of the second
 abbrev head_of : ℕ → List Statement → List Statement
-head_of n rest = title ∷ given 3 2 ∷ live a ∷ live b ∷ live a ∷ edges 1 ∷ edge 0 1 ∷ views n ∷ rest
+head_of n rest = title ∷ allocated 3 2 ∷ live a ∷ live b ∷ live a ∷ edges 1 ∷ edge 0 1 ∷ views n ∷ rest
 
 abbrev row : Via → List Statement → List Statement
 row via rest = view via ∷ ranks (0 ∷ 1 ∷ 0 ∷ []) rest
@@ -76,7 +76,7 @@ begins_late : all_taken (head_of 1 (view One ∷ ranks (1 ∷ []) [])) nothing_r
 begins_late = refl
 
 -- a level above 8
-level_nine : all_taken (title ∷ given 3 9 ∷ []) nothing_read ≡ None
+level_nine : all_taken (title ∷ allocated 3 9 ∷ []) nothing_read ≡ None
 level_nine = refl
 
 -- views out of order, or twice
@@ -130,7 +130,7 @@ without_views = refl
 
 -- an edge that doesn't rise, one that stands twice, one from a node that is gone
 abbrev pair_after : Statement → List Statement
-pair_after next = title ∷ given 3 2 ∷ live a ∷ gone ∷ live a ∷ edges 2 ∷ edge 0 2 ∷ next ∷ []
+pair_after next = title ∷ allocated 3 2 ∷ live a ∷ gone ∷ live a ∷ edges 2 ∷ edge 0 2 ∷ next ∷ []
 
 not_rising : all_taken (pair_after (edge 0 0)) nothing_read ≡ None
 not_rising = refl
@@ -149,12 +149,12 @@ rises = refl
 
 -- limits are tested first, where the line may stand
 abbrev at_given : Reading
-at_given = record nothing_read { due = due.Given }
+at_given = record nothing_read { due = due.Allocated }
 
-too_many_nodes : exceeds program_limits (given 3000000 9) at_given ≡ true
+too_many_nodes : exceeds program_limits (allocated 3000000 9) at_given ≡ true
 too_many_nodes = refl
 
-misplaced_nodes : exceeds program_limits (given 3000000 9) nothing_read ≡ false
+misplaced_nodes : exceeds program_limits (allocated 3000000 9) nothing_read ≡ false
 misplaced_nodes = refl
 
 too_many_edges : exceeds program_limits (edges 4194305) (record nothing_read { due = due.Nodes 0 }) ≡ true
@@ -165,30 +165,30 @@ as_many_edges = refl
 
 -- numbers
 
-zero_is : number_of (codes "0") ≡ Some 0
+zero_is : decimal_value (codes "0") ≡ Some 0
 zero_is = refl
 
-ten_is : number_of (codes "10") ≡ Some 10
+ten_is : decimal_value (codes "10") ≡ Some 10
 ten_is = refl
 
-leading_zero : number_of (codes "07") ≡ None
+leading_zero : decimal_value (codes "07") ≡ None
 leading_zero = refl
 
-two_zeros : number_of (codes "00") ≡ None
+two_zeros : decimal_value (codes "00") ≡ None
 two_zeros = refl
 
-no_digits : number_of [] ≡ None
+no_digits : decimal_value [] ≡ None
 no_digits = refl
 
-signed : number_of (codes "+1") ≡ None
+signed : decimal_value (codes "+1") ≡ None
 signed = refl
 
-blank_behind : number_of (codes "1 ") ≡ None
+blank_behind : decimal_value (codes "1 ") ≡ None
 blank_behind = refl
 
 -- lines
 
-says_given : Says (codes "given 3 k 2") (given 3 2)
+says_given : Says (codes "given 3 k 2") (allocated 3 2)
 says_given = (codes "3 k 2", refl, (codes "3", codes "2", refl, refl, refl))
 
 says_edge : Says (codes "0 1") (edge 0 1)

@@ -12,7 +12,7 @@ use Rattle.index_api.specs.declared.kinds.Via.{Via}
 use Rattle.index_api.specs.declared.kinds.Via.TheVariants.{Data, A, One, Fb, B}
 use Rattle.index_api.specs.IndexKinds.{KeptIndexes, is_kept, Relates}
 use Rattle.index_file.specs.SavedFiles.{SavedFile, SavedView}
-use Rattle.index_file.specs.FittingViews.{IsStableMinimal, FitsVia, FitsSaved, FitsView}
+use Rattle.index_file.specs.FittingViews.{IsStableMinimal, IsPartitionVia, FitsSaved, FitsView}
 use Rattle.index_file.specs.SavedIndexes.{SavesFile}
 use Rattle.index_file.specs.WholeFiles.{IsFileOf, CanBeSaved, IsIndexFile}
 use Rattle.index_file.proofs.OneFile.{one_file}
@@ -71,7 +71,7 @@ same_groups s one block a m = record {
 -- ---- each view fits
 
 fits_via : (g : Graph) (kept : KeptIndexes) → CanBeSaved g kept → (via : Via) (block : List (Option ℕ)) → is_kept kept via ≡ true → Agrees (shape_of g) block (Relates g kept via)
-    → FitsVia (shape_of g) via block
+    → IsPartitionVia (shape_of g) via block
 fits_via g kept can Data block h a = absurd (true≢false (sym h))
 fits_via g kept can (A level) block h a = a
 fits_via g kept can One block h a = same_groups (shape_of g) kept.one block a (can.one h)
@@ -88,7 +88,7 @@ each_fits g kept file can f j h =
     let v = view_there file.views j h in
     let k = f.views j v.0 v.1 in
     subst (FitsSaved file) (sym v.1)
-    (subst (λ s. FitsVia s v.0.via v.0.block_of) (sym (ap shape_of f.graph)) (fits_via g kept can v.0.via v.0.block_of k.there k.agrees))
+    (subst (λ s. IsPartitionVia s v.0.via v.0.block_of) (sym (ap shape_of f.graph)) (fits_via g kept can v.0.via v.0.block_of k.there k.agrees))
 
 -- The theorem on what is saved.
 pub saved_whole : (g : Graph) (kept : KeptIndexes) (text : List ℕ) → CanBeSaved g kept → SavesFile g kept text → IsIndexFile g kept text

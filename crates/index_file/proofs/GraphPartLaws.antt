@@ -9,7 +9,7 @@ use Rattle.graph_spec.specs.Members.{has}
 use Rattle.label_graph.specs.GraphViews.{edge_count}
 use Rattle.extent_report.specs.ListedBlocks.{texts_below}
 use Rattle.index_file.specs.WrittenFiles.{count_line, node_line, node_lines, edge_line, edge_lines, edges_from, head_text}
-use Rattle.index_file.specs.GraphParts.{texts_from, title_text, views_line, nodes_left, edges_left, stage_left, lines_left, turns_left, steps_left, Gave}
+use Rattle.index_file.specs.GraphParts.{texts_from, title_text, views_line, nodes_unwritten, edges_unwritten, stage_left, lines_left, turns_left, steps_left, Gave}
 use Rattle.index_file.specs.declared.graph_lines.Stage.{Stage}
 use Rattle.index_file.specs.declared.graph_lines.Stage.TheVariants.{Title, Nodes, Edges, Over}
 use Rattle.index_file.specs.declared.graph_lines.GraphLines.{GraphLines}
@@ -87,15 +87,15 @@ in_order : (p a n m k z nodes edges lines views : List ℕ)
     → p ++ a ++ n ++ m ++ k ++ (z ++ nodes) ++ edges ++ lines ++ views ≡ (p ++ a ++ n ++ (m ++ k ++ z)) ++ (nodes ++ (edges ++ (lines ++ views)))
 in_order p a n m k z nodes edges lines views = simp append_assoc
 
-title_left : (g : Graph) (k views : ℕ) → head_text g k views ≡ title_text (length g.allocated) k ++ nodes_left g views 0
+title_left : (g : Graph) (k views : ℕ) → head_text g k views ≡ title_text (length g.allocated) k ++ nodes_unwritten g views 0
 title_left g k views =
     let rest = count_line (codes "edges ") (edge_count g) ++ (edge_lines g ++ views_line views) in
-    let tail : node_lines g ++ rest ≡ nodes_left g views 0 = ap (λ t. t ++ rest) (sym (from_first (λ n. node_line (label_of g n)) (length g.allocated))) in
+    let tail : node_lines g ++ rest ≡ nodes_unwritten g views 0 = ap (λ t. t ++ rest) (sym (from_first (λ n. node_line (label_of g n)) (length g.allocated))) in
     in_order (codes "pathindex 1") (10 ∷ codes "given ") (decimal (length g.allocated)) (codes " k ") (decimal k) (10 ∷ []) (node_lines g) (count_line (codes "edges ") (edge_count g)) (edge_lines g) (views_line views)
     ∙ ap (λ t. title_text (length g.allocated) k ++ t) tail
 
 pub title_given : (g : Graph) (l : GraphLines) (before after : List ℕ) → l.stage ≡ Title → after ≡ before ++ title_text (length g.allocated) l.k
-    → Gave before after (lines_left g l) (nodes_left g l.views 0)
+    → Gave before after (lines_left g l) (nodes_unwritten g l.views 0)
 title_given g l before after s e = record {
   lines = title_text (length g.allocated) l.k;
   given = e;
@@ -134,7 +134,7 @@ node_fewer g l s w =
 -- ---- how many edges there are
 
 count_next : (g : Graph) (l : GraphLines) (given : ℕ) → l.stage ≡ Nodes → length g.allocated ≤ l.number → length l.children.items ≤ given
-    → lines_left g l ≡ count_line (codes "edges ") (edge_count g) ++ edges_left g l.views l.from (drop given l.children.items) 0
+    → lines_left g l ≡ count_line (codes "edges ") (edge_count g) ++ edges_unwritten g l.views l.from (drop given l.children.items) 0
 count_next g l given s w all =
     let f : ℕ → List ℕ = λ n. node_line (label_of g n) in
     let count = count_line (codes "edges ") (edge_count g) in
@@ -143,7 +143,7 @@ count_next g l given s w all =
     ∙ ap (λ t. count ++ (flat_map (edge_line l.from) t ++ (texts_from (length g.allocated - 0) 0 (edges_from g) ++ views_line l.views))) (sym (drop_of_length-le l.children.items all))
 
 pub count_given : (g : Graph) (l : GraphLines) (given : ℕ) (before after : List ℕ) → l.stage ≡ Nodes → length g.allocated ≤ l.number → given ≡ length l.children.items
-    → after ≡ before ++ count_line (codes "edges ") (edge_count g) → Gave before after (lines_left g l) (edges_left g l.views l.from (drop given l.children.items) 0)
+    → after ≡ before ++ count_line (codes "edges ") (edge_count g) → Gave before after (lines_left g l) (edges_unwritten g l.views l.from (drop given l.children.items) 0)
 count_given g l given before after s w all e = record {
   lines = count_line (codes "edges ") (edge_count g);
   given = e;
@@ -197,7 +197,7 @@ module _ (g : Graph) (l new : GraphLines) (is_graph : IsGraph g) (s : l.stage �
   turn_same =
       let f = edges_from g in
       let after = texts_from (length g.allocated - (l.number + 1)) (l.number + 1) f ++ views_line l.views in
-      let here : lines_left g new ≡ edges_left g l.views l.number new.children.items (l.number + 1) = left_at g new Edges t ∙ rw views (rw from (rw given (rw number refl))) in
+      let here : lines_left g new ≡ edges_unwritten g l.views l.number new.children.items (l.number + 1) = left_at g new Edges t ∙ rw views (rw from (rw given (rw number refl))) in
       let before : lines_left g l ≡ texts_from (length g.allocated - l.number) l.number f ++ views_line l.views =
       left_at g l Edges s ∙ ap (λ xs. flat_map (edge_line l.from) xs ++ (texts_from (length g.allocated - l.number) l.number f ++ views_line l.views)) (drop_of_length-le l.children.items none) in
       here ∙ ap (λ x. x ++ after) (edges_listed g l.number new.children.items is_graph rises members)

@@ -11,7 +11,7 @@ use Rattle.path_query.specs.Labels.{SpellsLabel}
 use Rattle.path_query.proofs.LabelLaws.{label_one}
 use Rattle.index_api.specs.declared.kinds.Via.{Via}
 use Rattle.index_api.specs.declared.kinds.Via.TheVariants.{Data, A, One, Fb, B}
-use Rattle.index_file.specs.Statements.{Statement, title, given, live, gone, edges, edge, views, view, rank, Says, HasPrefix, AreNumbers, IsNumber, NamesIndex}
+use Rattle.index_file.specs.Statements.{Statement, title, allocated, live, gone, edges, edge, views, view, rank, Says, HasPrefix, AreNumbers, IsNumber, NamesIndex}
 use Rattle.index_file.proofs.DecimalLaws.{digits_of, some_one, decimal_first}
 use Rattle.index_file.proofs.WordLaws.{behind_one, number_parts}
 
@@ -31,7 +31,7 @@ sort line =
 
 abbrev sort_of : Statement → ℕ
 sort_of title = 0
-sort_of (given n k) = 1
+sort_of (allocated n k) = 1
 sort_of (live t) = 2
 sort_of gone = 3
 sort_of (edges m) = 4
@@ -66,7 +66,7 @@ space_behind (d ∷ ds) b = has_tail d (ds ++ 32 ∷ b) 32 (space_behind ds b)
 
 sorted : (line : List ℕ) (s : Statement) → Says line s → sort line ≡ sort_of s
 sorted line title e = ap sort e
-sorted line (given n k) (rest, e, h) = ap sort e
+sorted line (allocated n k) (rest, e, h) = ap sort e
 sorted line (live t) (rest, e, h) = ap sort e
 sorted line gone e = ap sort e
 sorted line (edges m) (rest, e, h) = ap sort e
@@ -135,7 +135,7 @@ one_given line n k i j (x, e, p) (y, f, q) =
 
 same_sort : (line : List ℕ) (s t : Statement) → sort_of s ≡ sort_of t → Says line s → Says line t → s ≡ t
 same_sort line title title e p q = refl
-same_sort line title (given n2 k2) e p q = absurd (omega (arith, e))
+same_sort line title (allocated n2 k2) e p q = absurd (omega (arith, e))
 same_sort line title (live t2) e p q = absurd (omega (arith, e))
 same_sort line title gone e p q = absurd (omega (arith, e))
 same_sort line title (edges m2) e p q = absurd (omega (arith, e))
@@ -143,17 +143,17 @@ same_sort line title (edge u2 v2) e p q = absurd (omega (arith, e))
 same_sort line title (views n2) e p q = absurd (omega (arith, e))
 same_sort line title (view via2) e p q = absurd (omega (arith, e))
 same_sort line title (rank r2) e p q = absurd (omega (arith, e))
-same_sort line (given n k) title e p q = absurd (omega (arith, e))
-same_sort line (given n k) (given n2 k2) e p q = (let w = one_given line n k n2 k2 p q in ap (λ x. given x k) w.0 ∙ ap (λ x. given n2 x) w.1)
-same_sort line (given n k) (live t2) e p q = absurd (omega (arith, e))
-same_sort line (given n k) gone e p q = absurd (omega (arith, e))
-same_sort line (given n k) (edges m2) e p q = absurd (omega (arith, e))
-same_sort line (given n k) (edge u2 v2) e p q = absurd (omega (arith, e))
-same_sort line (given n k) (views n2) e p q = absurd (omega (arith, e))
-same_sort line (given n k) (view via2) e p q = absurd (omega (arith, e))
-same_sort line (given n k) (rank r2) e p q = absurd (omega (arith, e))
+same_sort line (allocated n k) title e p q = absurd (omega (arith, e))
+same_sort line (allocated n k) (allocated n2 k2) e p q = (let w = one_given line n k n2 k2 p q in ap (λ x. allocated x k) w.0 ∙ ap (λ x. allocated n2 x) w.1)
+same_sort line (allocated n k) (live t2) e p q = absurd (omega (arith, e))
+same_sort line (allocated n k) gone e p q = absurd (omega (arith, e))
+same_sort line (allocated n k) (edges m2) e p q = absurd (omega (arith, e))
+same_sort line (allocated n k) (edge u2 v2) e p q = absurd (omega (arith, e))
+same_sort line (allocated n k) (views n2) e p q = absurd (omega (arith, e))
+same_sort line (allocated n k) (view via2) e p q = absurd (omega (arith, e))
+same_sort line (allocated n k) (rank r2) e p q = absurd (omega (arith, e))
 same_sort line (live t) title e p q = absurd (omega (arith, e))
-same_sort line (live t) (given n2 k2) e p q = absurd (omega (arith, e))
+same_sort line (live t) (allocated n2 k2) e p q = absurd (omega (arith, e))
 same_sort line (live t) (live t2) e p q = ap live (one_word line t t2 p q)
 same_sort line (live t) gone e p q = absurd (omega (arith, e))
 same_sort line (live t) (edges m2) e p q = absurd (omega (arith, e))
@@ -162,7 +162,7 @@ same_sort line (live t) (views n2) e p q = absurd (omega (arith, e))
 same_sort line (live t) (view via2) e p q = absurd (omega (arith, e))
 same_sort line (live t) (rank r2) e p q = absurd (omega (arith, e))
 same_sort line gone title e p q = absurd (omega (arith, e))
-same_sort line gone (given n2 k2) e p q = absurd (omega (arith, e))
+same_sort line gone (allocated n2 k2) e p q = absurd (omega (arith, e))
 same_sort line gone (live t2) e p q = absurd (omega (arith, e))
 same_sort line gone gone e p q = refl
 same_sort line gone (edges m2) e p q = absurd (omega (arith, e))
@@ -171,7 +171,7 @@ same_sort line gone (views n2) e p q = absurd (omega (arith, e))
 same_sort line gone (view via2) e p q = absurd (omega (arith, e))
 same_sort line gone (rank r2) e p q = absurd (omega (arith, e))
 same_sort line (edges m) title e p q = absurd (omega (arith, e))
-same_sort line (edges m) (given n2 k2) e p q = absurd (omega (arith, e))
+same_sort line (edges m) (allocated n2 k2) e p q = absurd (omega (arith, e))
 same_sort line (edges m) (live t2) e p q = absurd (omega (arith, e))
 same_sort line (edges m) gone e p q = absurd (omega (arith, e))
 same_sort line (edges m) (edges m2) e p q = ap edges (one_behind (codes "edges ") line m m2 p q)
@@ -180,7 +180,7 @@ same_sort line (edges m) (views n2) e p q = absurd (omega (arith, e))
 same_sort line (edges m) (view via2) e p q = absurd (omega (arith, e))
 same_sort line (edges m) (rank r2) e p q = absurd (omega (arith, e))
 same_sort line (edge u v) title e p q = absurd (omega (arith, e))
-same_sort line (edge u v) (given n2 k2) e p q = absurd (omega (arith, e))
+same_sort line (edge u v) (allocated n2 k2) e p q = absurd (omega (arith, e))
 same_sort line (edge u v) (live t2) e p q = absurd (omega (arith, e))
 same_sort line (edge u v) gone e p q = absurd (omega (arith, e))
 same_sort line (edge u v) (edges m2) e p q = absurd (omega (arith, e))
@@ -189,7 +189,7 @@ same_sort line (edge u v) (views n2) e p q = absurd (omega (arith, e))
 same_sort line (edge u v) (view via2) e p q = absurd (omega (arith, e))
 same_sort line (edge u v) (rank r2) e p q = absurd (omega (arith, e))
 same_sort line (views n) title e p q = absurd (omega (arith, e))
-same_sort line (views n) (given n2 k2) e p q = absurd (omega (arith, e))
+same_sort line (views n) (allocated n2 k2) e p q = absurd (omega (arith, e))
 same_sort line (views n) (live t2) e p q = absurd (omega (arith, e))
 same_sort line (views n) gone e p q = absurd (omega (arith, e))
 same_sort line (views n) (edges m2) e p q = absurd (omega (arith, e))
@@ -198,7 +198,7 @@ same_sort line (views n) (views n2) e p q = ap views (one_behind (codes "views "
 same_sort line (views n) (view via2) e p q = absurd (omega (arith, e))
 same_sort line (views n) (rank r2) e p q = absurd (omega (arith, e))
 same_sort line (view via) title e p q = absurd (omega (arith, e))
-same_sort line (view via) (given n2 k2) e p q = absurd (omega (arith, e))
+same_sort line (view via) (allocated n2 k2) e p q = absurd (omega (arith, e))
 same_sort line (view via) (live t2) e p q = absurd (omega (arith, e))
 same_sort line (view via) gone e p q = absurd (omega (arith, e))
 same_sort line (view via) (edges m2) e p q = absurd (omega (arith, e))
@@ -207,7 +207,7 @@ same_sort line (view via) (views n2) e p q = absurd (omega (arith, e))
 same_sort line (view via) (view via2) e p q = ap view (one_view line via via2 p q)
 same_sort line (view via) (rank r2) e p q = absurd (omega (arith, e))
 same_sort line (rank r) title e p q = absurd (omega (arith, e))
-same_sort line (rank r) (given n2 k2) e p q = absurd (omega (arith, e))
+same_sort line (rank r) (allocated n2 k2) e p q = absurd (omega (arith, e))
 same_sort line (rank r) (live t2) e p q = absurd (omega (arith, e))
 same_sort line (rank r) gone e p q = absurd (omega (arith, e))
 same_sort line (rank r) (edges m2) e p q = absurd (omega (arith, e))

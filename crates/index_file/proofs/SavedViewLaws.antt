@@ -17,7 +17,7 @@ use Rattle.index_file.specs.SavedFiles.{SavedFile, graph_of, ranks_at}
 use Rattle.index_file.specs.Readings.{RankedView, is_live_in, live_in, view_in}
 use Rattle.index_file.specs.ReadViews.{HaveRanks}
 use Rattle.index_file.specs.ReadNodes.{texts_at, AreReadNodes}
-use Rattle.index_file.specs.SavedGraphs.{saved_file, AreNeighbours, ArePlaces, ArePlacesBelow, IsSaved, index_of, blocks_of, blocks_at, via_at}
+use Rattle.index_file.specs.SavedGraphs.{saved_file, AreNeighbours, ArePlaces, ArePlacesBelow, IsSaved, via_of_view, blocks_of, blocks_at, via_at}
 use Rattle.index_file.proofs.ReadNodeLaws.{live_below}
 use Rattle.index_file.proofs.SavedLaws.{seen_distinct}
 
@@ -98,7 +98,7 @@ module _ (allocated : List (Option (List ℕ))) (children : List (List ℕ)) (k 
     where
       by : (o : Option RankedView) → slice_get views j ≡ o → option_map (λ v. v.via) o ≡ Some via → via_at file j ≡ Some via
       by None e h = absurd (let z : None ≡ Some via = h in cc)
-      by (Some v) e h = ap index_of (viewed allocated views j ∙ ap (option_map (view_in allocated)) e) ∙ h
+      by (Some v) e h = ap via_of_view (viewed allocated views j ∙ ap (option_map (view_in allocated)) e) ∙ h
 
   pub blocks_there : (ranks : List ℕ) → option_map (λ v. v.ranks) (slice_get views j) ≡ Some ranks → blocks_at file j ≡ ranks_at allocated ranks
   blocks_there ranks h = by (slice_get views j) refl h

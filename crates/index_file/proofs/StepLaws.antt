@@ -5,10 +5,10 @@ use Rattle.graph_spec.specs.declared.limits.Limits.{Limits}
 use Rattle.path_query.specs.Labels.{SpellsLabel}
 use Rattle.index_api.specs.declared.kinds.Via.{Via}
 use Rattle.index_file.specs.declared.due.Due.{Due}
-use Rattle.index_file.specs.declared.due.Due.TheVariants.{Title, Given, Nodes, Edges, Ranks}
-use Rattle.index_file.specs.Statements.{Statement, title, given, live, gone, edges, edge, views, view, rank, Says, HasPrefix, AreNumbers, IsNumber, NamesIndex}
-use Rattle.index_file.specs.Readings.{Reading, step, exceeds_at, take_given, take_edge, take_view, take_rank}
-use Rattle.index_file.specs.Reads.{IsTaken, IsOver, IsWrong}
+use Rattle.index_file.specs.declared.due.Due.TheVariants.{Title, Allocated, Nodes, Edges, Ranks}
+use Rattle.index_file.specs.Statements.{Statement, title, allocated, live, gone, edges, edge, views, view, rank, Says, HasPrefix, AreNumbers, IsNumber, NamesIndex}
+use Rattle.index_file.specs.Readings.{Reading, step, exceeds_at, take_allocated, take_edge, take_view, take_rank}
+use Rattle.index_file.specs.Reads.{IsTaken, ExceedsAt, IsWrong}
 
 -- the same as `IsWrong`, where this is due
 abbrev WrongAt : Limits → List ℕ → Reading → Due → Type 0
@@ -16,7 +16,7 @@ WrongAt limits line r d = (s : Statement) → Says line s → IsFalse (exceeds_a
 
 at_title : (limits : Limits) (line : List ℕ) (r : Reading) → (line ≢ codes "pathindex 1") → WrongAt limits line r Title
 at_title limits line r bad title says = absurd (bad says)
-at_title limits line r bad (given n k) says = (refl, refl)
+at_title limits line r bad (allocated n k) says = (refl, refl)
 at_title limits line r bad (live t) says = (refl, refl)
 at_title limits line r bad gone says = (refl, refl)
 at_title limits line r bad (edges m) says = (refl, refl)
@@ -28,9 +28,9 @@ at_title limits line r bad (rank x) says = (refl, refl)
 pub wrong_title : (limits : Limits) (line : List ℕ) (r : Reading) → r.due ≡ Title → (line ≢ codes "pathindex 1") → IsWrong limits line r
 wrong_title limits line r due bad = subst (λ d. WrongAt limits line r d) (sym due) (at_title limits line r bad)
 
-at_given : (limits : Limits) (line : List ℕ) (r : Reading) → ((n k : ℕ) → HasPrefix (codes "given ") line (λ rest. AreNumbers (codes " k ") rest n k) → IsFalse (nat_lt limits.nodes n) × (take_given n k r ≡ None)) → WrongAt limits line r Given
+at_given : (limits : Limits) (line : List ℕ) (r : Reading) → ((n k : ℕ) → HasPrefix (codes "given ") line (λ rest. AreNumbers (codes " k ") rest n k) → IsFalse (nat_lt limits.nodes n) × (take_allocated n k r ≡ None)) → WrongAt limits line r Allocated
 at_given limits line r bad title says = (refl, refl)
-at_given limits line r bad (given n k) says = bad n k says
+at_given limits line r bad (allocated n k) says = bad n k says
 at_given limits line r bad (live t) says = (refl, refl)
 at_given limits line r bad gone says = (refl, refl)
 at_given limits line r bad (edges m) says = (refl, refl)
@@ -39,12 +39,12 @@ at_given limits line r bad (views n) says = (refl, refl)
 at_given limits line r bad (view via) says = (refl, refl)
 at_given limits line r bad (rank x) says = (refl, refl)
 
-pub wrong_given : (limits : Limits) (line : List ℕ) (r : Reading) → r.due ≡ Given → ((n k : ℕ) → HasPrefix (codes "given ") line (λ rest. AreNumbers (codes " k ") rest n k) → IsFalse (nat_lt limits.nodes n) × (take_given n k r ≡ None)) → IsWrong limits line r
+pub wrong_given : (limits : Limits) (line : List ℕ) (r : Reading) → r.due ≡ Allocated → ((n k : ℕ) → HasPrefix (codes "given ") line (λ rest. AreNumbers (codes " k ") rest n k) → IsFalse (nat_lt limits.nodes n) × (take_allocated n k r ≡ None)) → IsWrong limits line r
 wrong_given limits line r due bad = subst (λ d. WrongAt limits line r d) (sym due) (at_given limits line r bad)
 
 at_node : (limits : Limits) (line : List ℕ) (r : Reading) (left : ℕ) → ((t : List ℕ) → HasPrefix (codes "live ") line (λ word. SpellsLabel word t) → ⊥) → (line ≢ codes "gone") → WrongAt limits line r (Nodes (suc left))
 at_node limits line r left dead bad title says = (refl, refl)
-at_node limits line r left dead bad (given n k) says = (refl, refl)
+at_node limits line r left dead bad (allocated n k) says = (refl, refl)
 at_node limits line r left dead bad (live t) says = absurd (dead t says)
 at_node limits line r left dead bad gone says = absurd (bad says)
 at_node limits line r left dead bad (edges m) says = (refl, refl)
@@ -58,7 +58,7 @@ wrong_node limits line r left due dead bad = subst (λ d. WrongAt limits line r 
 
 at_edge_count : (limits : Limits) (line : List ℕ) (r : Reading) → ((m : ℕ) → HasPrefix (codes "edges ") line (λ digits. IsNumber digits m) → ⊥) → WrongAt limits line r (Nodes 0)
 at_edge_count limits line r bad title says = (refl, refl)
-at_edge_count limits line r bad (given n k) says = (refl, refl)
+at_edge_count limits line r bad (allocated n k) says = (refl, refl)
 at_edge_count limits line r bad (live t) says = (refl, refl)
 at_edge_count limits line r bad gone says = (refl, refl)
 at_edge_count limits line r bad (edges m) says = absurd (bad m says)
@@ -72,7 +72,7 @@ wrong_edge_count limits line r due bad = subst (λ d. WrongAt limits line r d) (
 
 at_edge : (limits : Limits) (line : List ℕ) (r : Reading) (left : ℕ) → ((u v : ℕ) → AreNumbers (codes " ") line u v → take_edge left u v r ≡ None) → WrongAt limits line r (Edges (suc left))
 at_edge limits line r left bad title says = (refl, refl)
-at_edge limits line r left bad (given n k) says = (refl, refl)
+at_edge limits line r left bad (allocated n k) says = (refl, refl)
 at_edge limits line r left bad (live t) says = (refl, refl)
 at_edge limits line r left bad gone says = (refl, refl)
 at_edge limits line r left bad (edges m) says = (refl, refl)
@@ -86,7 +86,7 @@ wrong_edge limits line r left due bad = subst (λ d. WrongAt limits line r d) (s
 
 at_view_count : (limits : Limits) (line : List ℕ) (r : Reading) → ((n : ℕ) → HasPrefix (codes "views ") line (λ digits. IsNumber digits n) → ⊥) → WrongAt limits line r (Edges 0)
 at_view_count limits line r bad title says = (refl, refl)
-at_view_count limits line r bad (given n k) says = (refl, refl)
+at_view_count limits line r bad (allocated n k) says = (refl, refl)
 at_view_count limits line r bad (live t) says = (refl, refl)
 at_view_count limits line r bad gone says = (refl, refl)
 at_view_count limits line r bad (edges m) says = (refl, refl)
@@ -100,7 +100,7 @@ wrong_view_count limits line r due bad = subst (λ d. WrongAt limits line r d) (
 
 at_view : (limits : Limits) (line : List ℕ) (r : Reading) (count : ℕ) → ((via : Via) → HasPrefix (codes "view ") line (λ word. NamesIndex word via) → take_view count via r ≡ None) → WrongAt limits line r (Ranks 0 count)
 at_view limits line r count bad title says = (refl, refl)
-at_view limits line r count bad (given n k) says = (refl, refl)
+at_view limits line r count bad (allocated n k) says = (refl, refl)
 at_view limits line r count bad (live t) says = (refl, refl)
 at_view limits line r count bad gone says = (refl, refl)
 at_view limits line r count bad (edges m) says = (refl, refl)
@@ -114,7 +114,7 @@ wrong_view limits line r count due bad = subst (λ d. WrongAt limits line r d) (
 
 at_rank : (limits : Limits) (line : List ℕ) (r : Reading) (left : ℕ) (count : ℕ) → ((x : ℕ) → IsNumber line x → take_rank left count x r ≡ None) → WrongAt limits line r (Ranks (suc left) count)
 at_rank limits line r left count bad title says = (refl, refl)
-at_rank limits line r left count bad (given n k) says = (refl, refl)
+at_rank limits line r left count bad (allocated n k) says = (refl, refl)
 at_rank limits line r left count bad (live t) says = (refl, refl)
 at_rank limits line r left count bad gone says = (refl, refl)
 at_rank limits line r left count bad (edges m) says = (refl, refl)
@@ -136,7 +136,7 @@ taken_at limits line old new d s due says within next = record {
   next = ap (λ e. step e s old) due ∙ next;
 }
 
-pub over_at : (limits : Limits) (line : List ℕ) (old : Reading) (d : Due) (s : Statement) → old.due ≡ d → Says line s → exceeds_at limits d s old ≡ true → IsOver limits line old
+pub over_at : (limits : Limits) (line : List ℕ) (old : Reading) (d : Due) (s : Statement) → old.due ≡ d → Says line s → exceeds_at limits d s old ≡ true → ExceedsAt limits line old
 over_at limits line old d s due says over = record {
   statement = s;
   says = says;

@@ -5,7 +5,7 @@ use Rattle.std.proofs.lemmas.Bool.{le-leb}
 use Rattle.graph_spec.specs.Graphs.{Graph, IsGraph}
 use Rattle.label_graph.specs.GraphViews.{edge_count}
 use Rattle.index_file.specs.declared.due.Due.TheVariants as due
-use Rattle.index_file.specs.Statements.{title, given, edges, views}
+use Rattle.index_file.specs.Statements.{title, allocated, edges, views}
 use Rattle.index_file.specs.Readings.{Reading, nothing_read, next_reading, counted_views}
 use Rattle.index_file.specs.WrittenFiles.{count_line, node_lines, edge_lines, head_text}
 use Rattle.index_file.specs.WholeFiles.{HasLabels}
@@ -17,9 +17,9 @@ use Rattle.index_file.proofs.WrittenViews.{views_read}
 
 -- the first line was read
 abbrev title_read : Reading
-title_read = record { due = due.Given; k = 0; allocated = []; pairs = []; views = [] }
+title_read = record { due = due.Allocated; k = 0; allocated = []; pairs = []; views = [] }
 
-given_taken : (n k : ℕ) → k ≤ 8 → next_reading (given n k) title_read ≡ Some (nodes_read k n [])
+given_taken : (n k : ℕ) → k ≤ 8 → next_reading (allocated n k) title_read ≡ Some (nodes_read k n [])
 given_taken n k h = rw (le-leb k 8 h) refl
 
 abbrev given_line : ℕ → ℕ → List ℕ
@@ -63,7 +63,7 @@ module _ (g : Graph) (k n : ℕ) (w : IsGraph g) (few : length g.allocated ≤ 4
       let level : k < 2 ^ 64 = omega (arith, low) in
       leads_text (codes "pathindex 1" ++ 10 ∷ (given_line size k ++ 10 ∷ node_lines g)) _ nothing_read (nodes_read k 0 g.allocated) (grouped size k (node_lines g))
       (leads_line (codes "pathindex 1") (given_line size k ++ 10 ∷ node_lines g) title nothing_read title_read (nodes_read k 0 g.allocated) (uncut_above (codes "pathindex 1") refl) refl refl
-      (leads_line (given_line size k) (node_lines g) (given size k) title_read (nodes_read k size []) (nodes_read k 0 g.allocated)
+      (leads_line (given_line size k) (node_lines g) (allocated size k) title_read (nodes_read k size []) (nodes_read k 0 g.allocated)
       (uncut_both (codes "given ") (decimal size ++ (codes " k " ++ decimal k)) (uncut_above (codes "given ") refl)
       (uncut_both (decimal size) (codes " k " ++ decimal k) (uncut_decimal size small) (uncut_both (codes " k ") (decimal k) (uncut_above (codes " k ") refl) (uncut_decimal k level))))
       (decimal size ++ (codes " k " ++ decimal k), refl, (decimal size, decimal k, refl, number_written size small, number_written k level))

@@ -2,7 +2,7 @@
 use Rattle.std.specs.Prelude.{ℕ, ◌≡◌, ◌≤◌, ◌+◌, List, [], length, Option, refl}
 use Rattle.std.specs.Coded.{Coded, code_by, coded×, coded_ℕ, coded_list, coded_option}
 use Rattle.index_file.specs.declared.due.Due.{Due}
-use Rattle.index_file.specs.declared.due.Due.TheVariants.{Title, Given, Nodes, Edges, Ranks}
+use Rattle.index_file.specs.declared.due.Due.TheVariants.{Title, Allocated, Nodes, Edges, Ranks}
 use Rattle.index_file.specs.contracts.due.Due.{the_row as due_row}
 use Rattle.index_file.specs.Readings.{Reading, RankedView, live_in, last_via}
 use Rattle.index_file.specs.ReadEdges.{AreReadEdges}
@@ -11,7 +11,7 @@ use Rattle.index_file.specs.ReadViews.{read_views_code, last_ranks, HaveRanks, m
 -- how many numbers may still come
 abbrev pub nodes_left : Due → ℕ
 nodes_left Title = 4294967295
-nodes_left Given = 4294967295
+nodes_left Allocated = 4294967295
 nodes_left (Nodes n) = n
 nodes_left (Edges m) = 0
 nodes_left (Ranks m n) = 0
@@ -19,7 +19,7 @@ nodes_left (Ranks m n) = 0
 -- how many ranks of the last view are due
 abbrev pub ranks_left : Due → ℕ
 ranks_left Title = 0
-ranks_left Given = 0
+ranks_left Allocated = 0
 ranks_left (Nodes n) = 0
 ranks_left (Edges m) = 0
 ranks_left (Ranks m n) = m
@@ -27,7 +27,7 @@ ranks_left (Ranks m n) = m
 -- how many edges may still come
 abbrev pub edges_left : Due → ℕ
 edges_left Title = 4294967295
-edges_left Given = 4294967295
+edges_left Allocated = 4294967295
 edges_left (Nodes n) = 4294967295
 edges_left (Edges m) = m
 edges_left (Ranks m n) = 0
@@ -35,7 +35,7 @@ edges_left (Ranks m n) = 0
 -- the views come last, and each has a rank for each live node
 abbrev pub FitDue : Due → ℕ → List RankedView → Type 0
 FitDue Title live views = views ≡ []
-FitDue Given live views = views ≡ []
+FitDue Allocated live views = views ≡ []
 FitDue (Nodes n) live views = views ≡ []
 FitDue (Edges m) live views = views ≡ []
 FitDue (Ranks m n) live views = HaveRanks live views m

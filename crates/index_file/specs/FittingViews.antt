@@ -16,17 +16,17 @@ pub record IsStableMinimal (s : Shape) (block : List (Option ℕ)) : Type 0 wher
   pub minimal : Minimal s block
 
 -- the partition is one of the index
-abbrev pub FitsVia : Shape → Via → List (Option ℕ) → Type 0
-FitsVia s Data block = ⊥
-FitsVia s (A level) block = Agrees s block (Bis s level)
-FitsVia s One block = IsStableMinimal s block
-FitsVia s Fb block = Agrees s block (FB s)
-FitsVia s (B level) block = Agrees s block (Both s level)
+abbrev pub IsPartitionVia : Shape → Via → List (Option ℕ) → Type 0
+IsPartitionVia s Data block = ⊥
+IsPartitionVia s (A level) block = Agrees s block (Bis s level)
+IsPartitionVia s One block = IsStableMinimal s block
+IsPartitionVia s Fb block = Agrees s block (FB s)
+IsPartitionVia s (B level) block = Agrees s block (Both s level)
 
 -- there is such a view, and it fits the graph of the file
 abbrev pub FitsSaved : SavedFile → Option SavedView → Type 0
 FitsSaved file None = ⊥
-FitsSaved file (Some v) = FitsVia (shape_of file.graph) v.via v.block_of
+FitsSaved file (Some v) = IsPartitionVia (shape_of file.graph) v.via v.block_of
 
 -- the view at that place fits the graph
 abbrev pub FitsView : SavedFile → ℕ → Type 0

@@ -22,19 +22,19 @@ abbrev pub views_line : ℕ → List ℕ
 views_line views = count_line (codes "views ") views
 
 -- the lines of the numbers from one on, and those behind them
-abbrev pub nodes_left : Graph → ℕ → ℕ → List ℕ
-nodes_left g views n =
+abbrev pub nodes_unwritten : Graph → ℕ → ℕ → List ℕ
+nodes_unwritten g views n =
     texts_from (length g.allocated - n) n (λ n. node_line (label_of g n)) ++ (count_line (codes "edges ") (edge_count g) ++ (edge_lines g ++ views_line views))
 
 -- the edges from one node to these, those that begin at the numbers from one on, and the line behind them
-abbrev pub edges_left : Graph → ℕ → ℕ → List ℕ → ℕ → List ℕ
-edges_left g views from children n = flat_map (edge_line from) children ++ (texts_from (length g.allocated - n) n (edges_from g) ++ views_line views)
+abbrev pub edges_unwritten : Graph → ℕ → ℕ → List ℕ → ℕ → List ℕ
+edges_unwritten g views from children n = flat_map (edge_line from) children ++ (texts_from (length g.allocated - n) n (edges_from g) ++ views_line views)
 
 -- the lines that are left at a stage
 abbrev pub stage_left : Stage → Graph → GraphLines → List ℕ
 stage_left Title g l = head_text g l.k l.views
-stage_left Nodes g l = nodes_left g l.views l.number
-stage_left Edges g l = edges_left g l.views l.from (drop l.given l.children.items) l.number
+stage_left Nodes g l = nodes_unwritten g l.views l.number
+stage_left Edges g l = edges_unwritten g l.views l.from (drop l.given l.children.items) l.number
 stage_left Over g l = []
 
 -- the lines that are left

@@ -3,7 +3,7 @@ use Rattle.std.specs.Prelude.{ℕ, ◌≡◌, ⊤, List, Option, None, Some}
 use Rattle.px_base.specs.Files.{File, content_of}
 use Rattle.graph_spec.specs.declared.limits.Limits.{Limits}
 use Rattle.index_file.specs.SavedFiles.{SavedFile}
-use Rattle.index_file.specs.Reads.{Spelled, Reads, limit}
+use Rattle.index_file.specs.Reads.{Spelled, Reads, past_limit}
 use Rattle.index_file.specs.declared.reading.SavedError.{SavedError}
 use Rattle.index_file.specs.declared.reading.SavedError.TheVariants as error
 
@@ -27,4 +27,4 @@ RefusesNone files name error.Memory = ⊤
 
 -- no line of the text passes a limit
 abbrev pub IsWithin : Limits → List ℕ → Type 0
-IsWithin limits text = (l : ℕ) → ¬ Reads limits text (limit l)
+IsWithin limits text = (l : ℕ) → ¬ Reads limits text (past_limit l)

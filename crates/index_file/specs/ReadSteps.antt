@@ -9,10 +9,10 @@ use Rattle.graph_spec.specs.declared.limits.Limits.{Limits}
 use Rattle.index_file.specs.declared.reading.SavedError.{SavedError}
 use Rattle.index_file.specs.declared.reading.SavedError.TheVariants as error
 use Rattle.index_file.specs.Readings.{Reading}
-use Rattle.index_file.specs.Reads.{Outcome, syntax, limit, Place, Ends, ReadsFrom, Reads, IsOver, IsWrong}
+use Rattle.index_file.specs.Reads.{ReadOutcome, bad_syntax, past_limit, ReadPlace, EndsFile, ReadsFrom, Reads, ExceedsAt, IsWrong}
 
 -- The name is that of an observable file whose text gives this; of opaque files it says nothing.
-abbrev pub ReadsObservable : Limits → Option (List File) → List ℕ → Outcome → Type 0
+abbrev pub ReadsObservable : Limits → Option (List File) → List ℕ → ReadOutcome → Type 0
 ReadsObservable limits None name o = ⊤
 ReadsObservable limits (Some files) name o = (text : List ℕ) × (content_of files name ≡ Some text) × Reads limits text o
 
@@ -22,9 +22,9 @@ LacksFile None name = ⊤
 LacksFile (Some files) name = content_of files name ≡ None
 
 -- the outcome that an error tells; memory that ran out and a call that failed tell none
-abbrev pub TellsOutcome : (Outcome → Type 0) → SavedError → Type 0
-TellsOutcome P (error.Syntax l) = P (syntax l)
-TellsOutcome P (error.Limit l) = P (limit l)
+abbrev pub TellsOutcome : (ReadOutcome → Type 0) → SavedError → Type 0
+TellsOutcome P (error.Syntax l) = P (bad_syntax l)
+TellsOutcome P (error.Limit l) = P (past_limit l)
 TellsOutcome P error.Missing = ⊤
 TellsOutcome P error.Fault = ⊤
 TellsOutcome P error.Memory = ⊤
@@ -32,22 +32,22 @@ TellsOutcome P error.Memory = ⊤
 -- why the line of that number isn't taken
 abbrev pub TellsLine : Limits → List ℕ → ℕ → Reading → SavedError → Type 0
 TellsLine limits line number r (error.Syntax l) = (l ≡ number) × IsWrong limits line r
-TellsLine limits line number r (error.Limit l) = (l ≡ number) × IsOver limits line r
+TellsLine limits line number r (error.Limit l) = (l ≡ number) × ExceedsAt limits line r
 TellsLine limits line number r error.Missing = ⊥
 TellsLine limits line number r error.Fault = ⊥
 TellsLine limits line number r error.Memory = ⊤
 
 -- what lies ahead gives this, where it is observable
-abbrev pub ReadsAhead : Limits → Option (List ℕ) → Place → Outcome → Type 0
+abbrev pub ReadsAhead : Limits → Option (List ℕ) → ReadPlace → ReadOutcome → Type 0
 ReadsAhead limits None p o = ⊤
 ReadsAhead limits (Some text) p o = ReadsFrom limits (cut text) p o
 
 -- how far a file is read, where this is read of it
-abbrev pub place : ReaderState → Reading → Place
+abbrev pub place : ReaderState → Reading → ReadPlace
 place r reading = record { reading = reading; lines = r.number; bytes = r.taken }
 
 -- what the reader and the shelf have left gives this outcome, where this is read
-abbrev pub ReadsRest : Limits → ReaderState → Option (List ℕ) → Reading → Outcome → Type 0
+abbrev pub ReadsRest : Limits → ReaderState → Option (List ℕ) → Reading → ReadOutcome → Type 0
 ReadsRest limits r left reading o = ReadsAhead limits (stream r left) (place r reading) o
 
 -- the reader has the limits of a graph file, can read on, and took a byte or more with each line
@@ -66,9 +66,9 @@ pub record CanRead (r : ReaderState) (is_open : Bool) : Type 0 where
 
 -- What became of a line. True: it was taken, and what is read of the text behind it is read of the text. False: the
 -- text is over, and what comes of an end here is read of it.
-abbrev pub GoesOn : Limits → Option (List ℕ) → Place → Option (List ℕ) → Place → Bool → Type 0
-GoesOn limits before p after q true = (o : Outcome) → ReadsAhead limits after q o → ReadsAhead limits before p o
-GoesOn limits before p after q false = (q.reading ≡ p.reading) × (q.lines ≡ p.lines) × ((o : Outcome) → Ends p o → ReadsAhead limits before p o)
+abbrev pub GoesOn : Limits → Option (List ℕ) → ReadPlace → Option (List ℕ) → ReadPlace → Bool → Type 0
+GoesOn limits before p after q true = (o : ReadOutcome) → ReadsAhead limits after q o → ReadsAhead limits before p o
+GoesOn limits before p after q false = (q.reading ≡ p.reading) × (q.lines ≡ p.lines) × ((o : ReadOutcome) → EndsFile p o → ReadsAhead limits before p o)
 
 -- What a call that reads on does to the reader, to what was read and to the shelf. Of a shelf the functions give what
 -- is left of the open file, whether one is open, the files, and the count of faults.

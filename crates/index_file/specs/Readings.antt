@@ -6,7 +6,7 @@ use Rattle.index_api.specs.declared.kinds.Via.{Via}
 use Rattle.index_api.specs.declared.kinds.Via.TheVariants.{Data, A, One, Fb, B}
 use Rattle.index_file.specs.SavedFiles.{SavedFile, SavedView, seen_of, graph_of, ranks_at}
 use Rattle.index_file.specs.declared.due.Due.{Due}
-use Rattle.index_file.specs.declared.due.Due.TheVariants.{Title, Given, Nodes, Edges, Ranks}
+use Rattle.index_file.specs.declared.due.Due.TheVariants.{Title, Allocated, Nodes, Edges, Ranks}
 use Rattle.index_file.specs.FoundNumbers.{saturated}
 use Rattle.index_file.specs.Statements as statement
 use Rattle.index_file.specs.Statements.{Statement}
@@ -116,8 +116,8 @@ abbrev pub counted_views : ℕ → ℕ
 counted_views n = saturated n
 
 -- n numbers are due, and levels go up to k; none where k is more than 8
-abbrev pub take_given : ℕ → ℕ → Reading → Option Reading
-take_given n k r = if nat_le k 8 then Some (record r { due = Nodes n; k = k }) else None
+abbrev pub take_allocated : ℕ → ℕ → Reading → Option Reading
+take_allocated n k r = if nat_le k 8 then Some (record r { due = Nodes n; k = k }) else None
 
 -- one more number has this label, or is gone; n are left
 abbrev pub take_node : ℕ → Option (List ℕ) → Reading → Option Reading
@@ -147,8 +147,8 @@ take_rank m n rank r = option_and_then (λ vs. Some (record r { due = Ranks m n;
 
 -- what is read once the line is, where this is due; none where it can't stand here
 abbrev pub step : Due → Statement → Reading → Option Reading
-step Title statement.title r = Some (record r { due = Given })
-step Given (statement.given n k) r = take_given n k r
+step Title statement.title r = Some (record r { due = Allocated })
+step Allocated (statement.allocated n k) r = take_allocated n k r
 step (Nodes zero) (statement.edges m) r = Some (record r { due = Edges m })
 step (Nodes (suc n)) (statement.live t) r = take_node n (Some t) r
 step (Nodes (suc n)) statement.gone r = take_node n None r
@@ -164,7 +164,7 @@ next_reading s r = step r.due s r
 
 -- whether a line that may stand here passes a limit: that of numbers, of labels, of edges
 abbrev pub exceeds_at : Limits → Due → Statement → Reading → Bool
-exceeds_at limits Given (statement.given n k) r = nat_lt limits.nodes n
+exceeds_at limits Allocated (statement.allocated n k) r = nat_lt limits.nodes n
 exceeds_at limits (Nodes (suc n)) (statement.live t) r = not (is_seen (seen_of r.allocated) t) && nat_le limits.labels (length (seen_of r.allocated))
 exceeds_at limits (Nodes zero) (statement.edges m) r = nat_lt limits.edges m
 exceeds_at limits due s r = false
@@ -176,7 +176,7 @@ exceeds limits s r = exceeds_at limits r.due s r
 -- whether nothing more is due, where there are so many views
 abbrev pub is_done : Due → ℕ → Bool
 is_done Title count = false
-is_done Given count = false
+is_done Allocated count = false
 is_done (Nodes n) count = false
 is_done (Edges m) count = false
 is_done (Ranks m n) count = nat_eq m 0 && nat_eq count n

@@ -24,16 +24,16 @@ pub record Spelled (text : List ℕ) (file : SavedFile) : Type 0 where
   pub holds : file ≡ file_of last
 
 -- what a text comes to as an index file
-pub data Outcome : Type 0 where
+pub data ReadOutcome : Type 0 where
   -- the file holds this
-  holds : SavedFile → Outcome
+  holds : SavedFile → ReadOutcome
   -- the line of that number can't stand there, or is missing
-  syntax : ℕ → Outcome
+  bad_syntax : ℕ → ReadOutcome
   -- the line of that number passes a limit
-  limit : ℕ → Outcome
+  past_limit : ℕ → ReadOutcome
 
 -- how far a file is read
-pub record Place : Type 0 where
+pub record ReadPlace : Type 0 where
   -- what was read
   pub reading : Reading
   -- the lines that were taken, and their bytes with their ends
@@ -41,16 +41,16 @@ pub record Place : Type 0 where
   pub bytes : ℕ
 
 -- before the first line
-abbrev pub at_start : Place
-at_start = record { reading = nothing_read; lines = 0; bytes = 0 }
+abbrev pub read_start : ReadPlace
+read_start = record { reading = nothing_read; lines = 0; bytes = 0 }
 
 -- past the line, with this read
-abbrev pub past : Place → Line → Reading → Place
-past p l reading = record { reading = reading; lines = p.lines + 1; bytes = p.bytes + length l.text + length l.end }
+abbrev pub read_past : ReadPlace → Line → Reading → ReadPlace
+read_past p l reading = record { reading = reading; lines = p.lines + 1; bytes = p.bytes + length l.text + length l.end }
 
 -- the line isn't too long, nor is the file up to its end
-abbrev pub IsWithinFile : Place → Line → Type 0
-IsWithinFile p l = (length l.text ≤ LINE_BYTES) × (p.bytes + length l.text + length l.end ≤ GRAPH_BYTES)
+abbrev pub IsWithinIndexFile : ReadPlace → Line → Type 0
+IsWithinIndexFile p l = (length l.text ≤ LINE_BYTES) × (p.bytes + length l.text + length l.end ≤ GRAPH_BYTES)
 
 -- the line is taken, and leaves this
 pub record IsTaken (limits : Limits) (line : List ℕ) (old new : Reading) : Type 0 where
@@ -64,7 +64,7 @@ pub record IsTaken (limits : Limits) (line : List ℕ) (old new : Reading) : Typ
   pub next : next_reading statement old ≡ Some new
 
 -- the line passes a limit
-pub record IsOver (limits : Limits) (line : List ℕ) (old : Reading) : Type 0 where
+pub record ExceedsAt (limits : Limits) (line : List ℕ) (old : Reading) : Type 0 where
   -- what the line says
   pub statement : Statement
   -- the line spells it
@@ -77,23 +77,23 @@ abbrev pub IsWrong : Limits → List ℕ → Reading → Type 0
 IsWrong limits line old = (s : Statement) → Says line s → IsFalse (exceeds limits s old) × (next_reading s old ≡ None)
 
 -- What becomes of a line that is within the limits on lines. What follows is said of the place behind it.
-pub data ReadsLine (limits : Limits) (p : Place) (l : Line) (rest : Place → Outcome → Type 0) : Outcome → Type 0 where
-  takes : (r : Reading) → IsTaken limits l.text p.reading r → (o : Outcome) → rest (past p l r) o → ReadsLine limits p l rest o
-  over : IsOver limits l.text p.reading → ReadsLine limits p l rest (limit (p.lines + 1))
-  wrong : IsWrong limits l.text p.reading → ReadsLine limits p l rest (syntax (p.lines + 1))
+pub data ReadsLine (limits : Limits) (p : ReadPlace) (l : Line) (rest : ReadPlace → ReadOutcome → Type 0) : ReadOutcome → Type 0 where
+  takes : (r : Reading) → IsTaken limits l.text p.reading r → (o : ReadOutcome) → rest (read_past p l r) o → ReadsLine limits p l rest o
+  over : ExceedsAt limits l.text p.reading → ReadsLine limits p l rest (past_limit (p.lines + 1))
+  wrong : IsWrong limits l.text p.reading → ReadsLine limits p l rest (bad_syntax (p.lines + 1))
 
 -- the file may end here, or ends too early
-pub data Ends (p : Place) : Outcome → Type 0 where
-  complete : IsTrue (is_complete p.reading) → Ends p (holds (file_of p.reading))
-  early : IsFalse (is_complete p.reading) → Ends p (syntax (p.lines + 1))
+pub data EndsFile (p : ReadPlace) : ReadOutcome → Type 0 where
+  complete : IsTrue (is_complete p.reading) → EndsFile p (holds (file_of p.reading))
+  early : IsFalse (is_complete p.reading) → EndsFile p (bad_syntax (p.lines + 1))
 
 -- The lines from the place on give this. The first line that is refused decides.
-abbrev pub ReadsFrom : Limits → List Line → Place → Outcome → Type 0
-ReadsFrom limits [] p o = Ends p o
+abbrev pub ReadsFrom : Limits → List Line → ReadPlace → ReadOutcome → Type 0
+ReadsFrom limits [] p o = EndsFile p o
 ReadsFrom limits (l ∷ ls) p o =
-    ((¬ IsWithinFile p l) × (o ≡ limit (p.lines + 1)))
-    ⊎ (IsWithinFile p l × ReadsLine limits p l (ReadsFrom limits ls) o)
+    ((¬ IsWithinIndexFile p l) × (o ≡ past_limit (p.lines + 1)))
+    ⊎ (IsWithinIndexFile p l × ReadsLine limits p l (ReadsFrom limits ls) o)
 
 -- the text gives this
-abbrev pub Reads : Limits → List ℕ → Outcome → Type 0
-Reads limits text o = ReadsFrom limits (cut text) at_start o
+abbrev pub Reads : Limits → List ℕ → ReadOutcome → Type 0
+Reads limits text o = ReadsFrom limits (cut text) read_start o

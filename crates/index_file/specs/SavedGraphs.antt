@@ -58,13 +58,13 @@ pub record IsSaved (allocated : List (Option (List ℕ))) (children parents : Li
   pub placed : ArePlaces allocated places
 
 -- the index of a view, if there is one
-abbrev pub index_of : Option SavedView → Option Via
-index_of None = None
-index_of (Some v) = Some v.via
+abbrev pub via_of_view : Option SavedView → Option Via
+via_of_view None = None
+via_of_view (Some v) = Some v.via
 
 -- the index of the view in that place, if there is one
 abbrev pub via_at : SavedFile → ℕ → Option Via
-via_at file j = index_of (slice_get file.views j)
+via_at file j = via_of_view (slice_get file.views j)
 
 -- the blocks of a view; nothing where there is none
 abbrev pub blocks_of : Option SavedView → List (Option ℕ)

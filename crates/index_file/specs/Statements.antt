@@ -12,7 +12,7 @@ pub data Statement : Type 0 where
   -- the first line
   title : Statement
   -- how many numbers were allocated, and the highest level of the families
-  given : ℕ → ℕ → Statement
+  allocated : ℕ → ℕ → Statement
   -- the next number is that of a node with this label, or of one that is gone
   live : List ℕ → Statement
   gone : Statement
@@ -32,12 +32,12 @@ abbrev pub is_decimal : List ℕ → Bool
 is_decimal digits = list_all is_ascii_digit digits && (length digits == 1 || not (slice_index_or digits 0 48 == 48))
 
 -- the number that the digits write, however large
-abbrev pub number_of : List ℕ → Option ℕ
-number_of digits = if is_decimal digits then Some (digits_value 10 digits) else None
+abbrev pub decimal_value : List ℕ → Option ℕ
+decimal_value digits = if is_decimal digits then Some (digits_value 10 digits) else None
 
 -- the digits write this number
 abbrev pub IsNumber : List ℕ → ℕ → Type 0
-IsNumber digits n = number_of digits ≡ Some n
+IsNumber digits n = decimal_value digits ≡ Some n
 
 -- a letter and then a number
 abbrev pub NamesLevel : List ℕ → List ℕ → ℕ → Type 0
@@ -62,7 +62,7 @@ AreNumbers word text n m = (a : List ℕ) × (b : List ℕ) × (text ≡ a ++ (w
 -- the line says this
 abbrev pub Says : List ℕ → Statement → Type 0
 Says line title = line ≡ codes "pathindex 1"
-Says line (given n k) = HasPrefix (codes "given ") line (λ rest. AreNumbers (codes " k ") rest n k)
+Says line (allocated n k) = HasPrefix (codes "given ") line (λ rest. AreNumbers (codes " k ") rest n k)
 Says line (live t) = HasPrefix (codes "live ") line (λ word. SpellsLabel word t)
 Says line gone = line ≡ codes "gone"
 Says line (edges m) = HasPrefix (codes "edges ") line (λ digits. IsNumber digits m)

@@ -2,9 +2,9 @@
 ghost use Rattle.std.specs.Prelude.{◌≡◌, ◌≢◌, ◌<◌, ◌≤◌, ◌++◌, ◌∷◌, ℕ, List, [], suc, codes, OnOk, OnErr, IfOk, IsErrOf, IfSome, IfNone, IsTrue, IsFalse, Some, nat_lt};
 ghost use Rattle.index_file.specs.Readings as readings;
 ghost use Rattle.index_file.specs.Readings.{nothing_read, is_complete, file_of, last_of, is_live_in, can_take_edge, can_take_view};
-ghost use Rattle.index_file.specs.Reads.{IsTaken, IsOver, IsWrong};
+ghost use Rattle.index_file.specs.Reads.{IsTaken, ExceedsAt, IsWrong};
 ghost use Rattle.index_file.specs.SavedGraphs.{IsSaved, saved_file};
-ghost use Rattle.index_file.specs.declared.due.Due.TheVariants.{Title, Given, Nodes, Edges, Ranks};
+ghost use Rattle.index_file.specs.declared.due.Due.TheVariants.{Title, Allocated, Nodes, Edges, Ranks};
 
 use crate::due::{Due, Stop};
 use crate::names::view_of;
@@ -93,7 +93,7 @@ fn is_done(due: Due, views: usize) -> bool
 {
     match due {
         Due::Title => false,
-        Due::Given => false,
+        Due::Allocated => false,
         Due::Nodes(_) => false,
         Due::Edges(_) => false,
         Due::Ranks(left, count) => left == 0 && views as u64 == count,
@@ -159,20 +159,20 @@ impl Draft {
     fn take_title(&mut self, limits: &Limits, line: &[u8]) -> Result<(), Stop>
         requires due { self.old.due ≡ Title }
         ensures taken { OnOk result (IsTaken limits.now line.now self.old self.new) }
-        ensures over { IsErrOf result Stop.Limit → IsOver limits.now line.now self.old }
+        ensures over { IsErrOf result Stop.Limit → ExceedsAt limits.now line.now self.old }
         ensures wrong { IsErrOf result Stop.Syntax → IsWrong limits.now line.now self.old }
     {
         if !is_word(line, b"pathindex 1") {
             return Err(Stop::Syntax);
         }
-        self.due = Due::Given;
+        self.due = Due::Allocated;
         Ok(())
     }
 
-    fn take_given(&mut self, limits: &Limits, line: &[u8]) -> Result<(), Stop>
-        requires due { self.old.due ≡ Given }
+    fn take_allocated(&mut self, limits: &Limits, line: &[u8]) -> Result<(), Stop>
+        requires due { self.old.due ≡ Allocated }
         ensures taken { OnOk result (IsTaken limits.now line.now self.old self.new) }
-        ensures over { IsErrOf result Stop.Limit → IsOver limits.now line.now self.old }
+        ensures over { IsErrOf result Stop.Limit → ExceedsAt limits.now line.now self.old }
         ensures wrong { IsErrOf result Stop.Syntax → IsWrong limits.now line.now self.old }
     {
         let Some((count, level)) = two_numbers_behind(line, b"given ", b" k ") else {
@@ -199,7 +199,7 @@ impl Draft {
     ) -> Result<(), Stop>
         requires due { self.old.due ≡ Nodes (suc left) }
         ensures taken { OnOk result (IsTaken limits.now (codes "live " ++ word.now) self.old self.new) }
-        ensures over { IsErrOf result Stop.Limit → IsOver limits.now (codes "live " ++ word.now) self.old }
+        ensures over { IsErrOf result Stop.Limit → ExceedsAt limits.now (codes "live " ++ word.now) self.old }
         ensures wrong { IsErrOf result Stop.Syntax → IsWrong limits.now (codes "live " ++ word.now) self.old }
     {
         match self.nodes.push_live(alloc, word, limits.labels) {
@@ -216,7 +216,7 @@ impl Draft {
         requires due { self.old.due ≡ Nodes (suc left) }
         requires dead { (word : List ℕ) → line.now ≢ codes "live " ++ word }
         ensures taken { OnOk result (IsTaken limits.now line.now self.old self.new) }
-        ensures over { IsErrOf result Stop.Limit → IsOver limits.now line.now self.old }
+        ensures over { IsErrOf result Stop.Limit → ExceedsAt limits.now line.now self.old }
         ensures wrong { IsErrOf result Stop.Syntax → IsWrong limits.now line.now self.old }
     {
         if !is_word(line, b"gone") {
@@ -241,7 +241,7 @@ impl Draft {
     ) -> Result<(), Stop>
         requires due { self.old.due ≡ Nodes (suc left) }
         ensures taken { OnOk result (IsTaken limits.now line.now self.old self.new) }
-        ensures over { IsErrOf result Stop.Limit → IsOver limits.now line.now self.old }
+        ensures over { IsErrOf result Stop.Limit → ExceedsAt limits.now line.now self.old }
         ensures wrong { IsErrOf result Stop.Syntax → IsWrong limits.now line.now self.old }
     {
         match behind(line, b"live ") {
@@ -253,7 +253,7 @@ impl Draft {
     fn take_edge_count(&mut self, limits: &Limits, line: &[u8]) -> Result<(), Stop>
         requires due { self.old.due ≡ Nodes 0 }
         ensures taken { OnOk result (IsTaken limits.now line.now self.old self.new) }
-        ensures over { IsErrOf result Stop.Limit → IsOver limits.now line.now self.old }
+        ensures over { IsErrOf result Stop.Limit → ExceedsAt limits.now line.now self.old }
         ensures wrong { IsErrOf result Stop.Syntax → IsWrong limits.now line.now self.old }
     {
         let Some(count) = number_behind(line, b"edges ") else {
@@ -270,7 +270,7 @@ impl Draft {
     fn take_edge(&mut self, limits: &Limits, line: &[u8], left: u32) -> Result<(), Stop>
         requires due { self.old.due ≡ Edges (suc left) }
         ensures taken { OnOk result (IsTaken limits.now line.now self.old self.new) }
-        ensures over { IsErrOf result Stop.Limit → IsOver limits.now line.now self.old }
+        ensures over { IsErrOf result Stop.Limit → ExceedsAt limits.now line.now self.old }
         ensures wrong { IsErrOf result Stop.Syntax → IsWrong limits.now line.now self.old }
     {
         let Some((from, onto)) = two_numbers(line, b" ") else {
@@ -291,7 +291,7 @@ impl Draft {
     fn take_view_count(&mut self, limits: &Limits, line: &[u8]) -> Result<(), Stop>
         requires due { self.old.due ≡ Edges 0 }
         ensures taken { OnOk result (IsTaken limits.now line.now self.old self.new) }
-        ensures over { IsErrOf result Stop.Limit → IsOver limits.now line.now self.old }
+        ensures over { IsErrOf result Stop.Limit → ExceedsAt limits.now line.now self.old }
         ensures wrong { IsErrOf result Stop.Syntax → IsWrong limits.now line.now self.old }
     {
         let Some(count) = number_behind(line, b"views ") else {
@@ -311,7 +311,7 @@ impl Draft {
     ) -> Result<(), Stop>
         requires due { self.old.due ≡ Ranks 0 count }
         ensures taken { OnOk result (IsTaken limits.now line.now self.old self.new) }
-        ensures over { IsErrOf result Stop.Limit → IsOver limits.now line.now self.old }
+        ensures over { IsErrOf result Stop.Limit → ExceedsAt limits.now line.now self.old }
         ensures wrong { IsErrOf result Stop.Syntax → IsWrong limits.now line.now self.old }
     {
         let ranks = self.nodes.live();
@@ -340,7 +340,7 @@ impl Draft {
     ) -> Result<(), Stop>
         requires due { self.old.due ≡ Ranks (suc left) count }
         ensures taken { OnOk result (IsTaken limits.now line.now self.old self.new) }
-        ensures over { IsErrOf result Stop.Limit → IsOver limits.now line.now self.old }
+        ensures over { IsErrOf result Stop.Limit → ExceedsAt limits.now line.now self.old }
         ensures wrong { IsErrOf result Stop.Syntax → IsWrong limits.now line.now self.old }
     {
         let Some(rank) = number(line) else {
@@ -365,7 +365,7 @@ impl Draft {
     ) -> Result<(), Stop>
         requires due { self.old.due ≡ Nodes count }
         ensures taken { OnOk result (IsTaken limits.now line.now self.old self.new) }
-        ensures over { IsErrOf result Stop.Limit → IsOver limits.now line.now self.old }
+        ensures over { IsErrOf result Stop.Limit → ExceedsAt limits.now line.now self.old }
         ensures wrong { IsErrOf result Stop.Syntax → IsWrong limits.now line.now self.old }
     {
         if count == 0 {
@@ -379,7 +379,7 @@ impl Draft {
     fn take_behind_edges(&mut self, limits: &Limits, line: &[u8], count: u32) -> Result<(), Stop>
         requires due { self.old.due ≡ Edges count }
         ensures taken { OnOk result (IsTaken limits.now line.now self.old self.new) }
-        ensures over { IsErrOf result Stop.Limit → IsOver limits.now line.now self.old }
+        ensures over { IsErrOf result Stop.Limit → ExceedsAt limits.now line.now self.old }
         ensures wrong { IsErrOf result Stop.Syntax → IsWrong limits.now line.now self.old }
     {
         if count == 0 {
@@ -400,7 +400,7 @@ impl Draft {
     ) -> Result<(), Stop>
         requires due { self.old.due ≡ Ranks ranks views }
         ensures taken { OnOk result (IsTaken limits.now line.now self.old self.new) }
-        ensures over { IsErrOf result Stop.Limit → IsOver limits.now line.now self.old }
+        ensures over { IsErrOf result Stop.Limit → ExceedsAt limits.now line.now self.old }
         ensures wrong { IsErrOf result Stop.Syntax → IsWrong limits.now line.now self.old }
     {
         if ranks == 0 {
@@ -414,12 +414,12 @@ impl Draft {
     /// stand here. O(b) for a line of b bytes, and for a `live` line the cost of `ReadLabels::number`.
     pub(crate) fn take(&mut self, alloc: Global, limits: &Limits, line: &[u8]) -> Result<(), Stop>
         ensures taken { OnOk result (IsTaken limits.now line.now self.old self.new) }
-        ensures over { IsErrOf result Stop.Limit → IsOver limits.now line.now self.old }
+        ensures over { IsErrOf result Stop.Limit → ExceedsAt limits.now line.now self.old }
         ensures wrong { IsErrOf result Stop.Syntax → IsWrong limits.now line.now self.old }
     {
         match self.due {
             Due::Title => self.take_title(limits, line),
-            Due::Given => self.take_given(limits, line),
+            Due::Allocated => self.take_allocated(limits, line),
             Due::Nodes(count) => self.take_behind_nodes(alloc, limits, line, count),
             Due::Edges(count) => self.take_behind_edges(limits, line, count),
             Due::Ranks(ranks, views) => self.take_behind_ranks(alloc, limits, line, ranks, views),

@@ -10,7 +10,7 @@ pub(crate) enum Due {
     /// The first line.
     Title,
     /// How many numbers were allocated.
-    Given,
+    Allocated,
     /// So many numbers, and then the number of edges.
     Nodes(u32),
     /// So many edges, and then the number of views.

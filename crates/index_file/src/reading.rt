@@ -2,7 +2,7 @@
 ghost use Rattle.std.specs.Prelude.{◌≡◌, ◌≢◌, ◌<◌, ◌^◌, ◌-◌, ◌+◌, false, List, ℕ, OnOk, IfOk, IfErr, IsErrOf, IsTrue, Err};
 ghost use Rattle.px_base.specs.Causes.{MayHaveRisen};
 ghost use Rattle.index_file.specs.Readings.{is_complete, file_of};
-ghost use Rattle.index_file.specs.Reads.{Outcome, Reads, Spelled, holds, at_start, IsTaken};
+ghost use Rattle.index_file.specs.Reads.{ReadOutcome, Reads, Spelled, holds, read_start, IsTaken};
 ghost use Rattle.index_file.specs.ReadFiles.{SpelledIn, RefusesNone, IsWithin};
 ghost use Rattle.index_file.specs.SavedFiles.{SavedFile};
 ghost use Rattle.index_file.specs.ReadSteps.{TellsOutcome, TellsLine, ReadsAhead, ReadsRest, ReadsObservable, LacksFile, CanRead, ReadsOn};
@@ -124,9 +124,9 @@ fn read_lines<H: Shelf>(
 // Reads the file that is open.
 fn read_open<H: Shelf>(alloc: Global, limits: &Limits, shelf: &mut H) -> Result<Draft, SavedError>
     requires { IsTrue (H.is_open shelf.old) }
-    ensures read { IfOk result (λ d. ReadsAhead limits.now (H.left shelf.old) at_start (holds (file_of d))) }
+    ensures read { IfOk result (λ d. ReadsAhead limits.now (H.left shelf.old) read_start (holds (file_of d))) }
     ensures complete { IfOk result (λ d. IsTrue (is_complete d)) }
-    ensures refused { IfErr result (TellsOutcome (ReadsAhead limits.now (H.left shelf.old) at_start)) }
+    ensures refused { IfErr result (TellsOutcome (ReadsAhead limits.now (H.left shelf.old) read_start)) }
     ensures found { result ≢ Err SavedError.Missing }
     ensures files { H.files shelf.new ≡ H.files shelf.old }
     ensures fault { IsErrOf result SavedError.Fault → MayHaveRisen (H.faults shelf.old) (H.faults shelf.new) }
@@ -151,7 +151,7 @@ fn read_draft<H: Shelf>(
     ensures read { IfOk result (λ d. ReadsObservable limits.now (H.files shelf.old) name.now (holds (file_of d))) }
     ensures complete { IfOk result (λ d. IsTrue (is_complete d)) }
     ensures refused { IfErr result (TellsOutcome (ReadsObservable limits.now (H.files shelf.old) name.now)) }
-    ensures once { (text : List ℕ) (a b : Outcome) → Reads limits.now text a → Reads limits.now text b → a ≡ b }
+    ensures once { (text : List ℕ) (a b : ReadOutcome) → Reads limits.now text a → Reads limits.now text b → a ≡ b }
     ensures missing { IsErrOf result SavedError.Missing → LacksFile (H.files shelf.old) name.now }
     ensures files { H.files shelf.new ≡ H.files shelf.old }
     ensures fault { IsErrOf result SavedError.Fault → MayHaveRisen (H.faults shelf.old) (H.faults shelf.new) }
@@ -197,7 +197,7 @@ pub fn read<H: Shelf>(
     // A text that spells a file is read as that file, if no line of it passes a limit.
     ensures whole { (text : List ℕ) (file : SavedFile) → Spelled text file → IsWithin limits.now text → Reads limits.now text (holds file) }
     // A text gives one outcome at most.
-    ensures once { (text : List ℕ) (a b : Outcome) → Reads limits.now text a → Reads limits.now text b → a ≡ b }
+    ensures once { (text : List ℕ) (a b : ReadOutcome) → Reads limits.now text a → Reads limits.now text b → a ≡ b }
     ensures missing { IsErrOf result SavedError.Missing → LacksFile (H.files shelf.old) name.now }
     ensures files { H.files shelf.new ≡ H.files shelf.old }
     ensures fault { IsErrOf result SavedError.Fault → MayHaveRisen (H.faults shelf.old) (H.faults shelf.new) }

@@ -14,20 +14,20 @@ abbrev pub label_in : Partition → ℕ → ℕ
 label_in p b = unwrap_or (at p.labels b) 0
 
 -- the block b, if n is the least of its nodes
-abbrev pub if_led : Partition → ℕ → Option ℕ → List Block
-if_led p n None = []
-if_led p n (Some b) =
+abbrev pub if_begun : Partition → ℕ → Option ℕ → List Block
+if_begun p n None = []
+if_begun p n (Some b) =
     if any_below n (is_member p b) then []
     else record { number = b; first = n; count = member_count p b; label = label_in p b } ∷ []
 
 -- the block of which n is the least node, if there is one
-abbrev pub block_led : Partition → ℕ → List Block
-block_led p n = if_led p n (at p.block_of n)
+abbrev pub block_begun_by : Partition → ℕ → List Block
+block_begun_by p n = if_begun p n (at p.block_of n)
 
 -- the blocks whose least nodes are below n, by rising least nodes
 abbrev pub blocks_below : Partition → ℕ → List Block
 blocks_below p zero = []
-blocks_below p (suc n) = blocks_below p n ++ block_led p n
+blocks_below p (suc n) = blocks_below p n ++ block_begun_by p n
 
 -- all blocks
 abbrev pub blocks_of : Partition → List Block

@@ -2,7 +2,7 @@
 ghost use Rattle.std.specs.Prelude.{◌≡◌, ◌<◌, ◌≤◌, ◌+◌, ◌++◌, ◌∷◌, [], IsSome, OnOk, IfOk, Some, length};
 ghost use Rattle.graph_spec.specs.Members as members;
 ghost use Rattle.index_picture.specs.DrawnBlocks as drawn;
-ghost use Rattle.index_picture.specs.DrawnBlocks.{block_led, blocks_of, no_block, lightest, without_lightest, heaviest_with, drawn_blocks, labels_used, labels_with, with_label};
+ghost use Rattle.index_picture.specs.DrawnBlocks.{block_begun_by, blocks_of, no_block, lightest, without_lightest, heaviest_with, drawn_blocks, labels_used, labels_with, with_label};
 ghost use Rattle.index_picture.specs.MetBlocks.{AreMet};
 
 use label_graph::Digraph;
@@ -23,14 +23,14 @@ pub(crate) struct Block {
 }
 
 // Puts the block of the node behind the others, if no node before was of it.
-fn push_led(
+fn push_begun(
     blocks: &mut Vec<Block>,
     met: &mut [bool],
     summary: &Summary,
     n: NodeId,
 ) -> Result<(), Memory>
     requires met { AreMet summary.now.blocks n met.old }
-    ensures blocks { OnOk result (blocks.new.items ≡ blocks.old.items ++ block_led summary.now.blocks n) }
+    ensures blocks { OnOk result (blocks.new.items ≡ blocks.old.items ++ block_begun_by summary.now.blocks n) }
     ensures met { OnOk result (AreMet summary.now.blocks (n + 1) met.new) }
 {
     let Some(b) = summary.block_of(n) else {
@@ -56,7 +56,7 @@ fn push_blocks(blocks: &mut Vec<Block>, met: &mut [bool], summary: &Summary) -> 
     ensures { OnOk result (blocks.new.items ≡ blocks_of summary.now.blocks) }
 {
     for n in 0..summary.numbers() {
-        push_led(blocks, met, summary, n)?;
+        push_begun(blocks, met, summary, n)?;
     }
     Ok(())
 }

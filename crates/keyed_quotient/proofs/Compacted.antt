@@ -12,14 +12,14 @@ use Rattle.keyed_quotient.specs.Numberings.{Numbering, numbered_key, block_keys,
 use Rattle.keyed_quotient.specs.CarriedKeys.{AreCarried, AreFew}
 use Rattle.keyed_quotient.proofs.AddedKeys.{set_length, given_here, given_there}
 use Rattle.keyed_quotient.proofs.Grown.{keys_alike, leads_grown}
-use Rattle.keyed_quotient.proofs.Numbered.{same_some, led_key, block_there, key_there, numbering_keyed}
+use Rattle.keyed_quotient.proofs.Numbered.{same_some, leads_key, block_there, key_there, numbering_keyed}
 
 pub carried_none : (labels : List (Option ℕ)) (old new : Numbering) → length new.table ≡ 0 → length labels ≤ length new.number_of → AreCarried labels old new 0
 carried_none labels old new none span = record {
   distinct = record { apart = λ i j key e f. (let within = slice_get_within new.table i key e in absurd (omega (arith, within, none))) };
   fits = omega (arith, none);
   span = span;
-  led = λ c key h e. absurd (omega (arith, h));
+  leads = λ c key h e. absurd (omega (arith, h));
   only = λ k key e. (let within = slice_get_within new.table k key e in absurd (omega (arith, within, none)));
   count = none;
 }
@@ -51,7 +51,7 @@ pub carried_next : (labels : List (Option ℕ)) (old now known new : Numbering) 
     → Gives key b known new → AreCarried labels old new (b + 1)
 carried_next labels old now known new b k key n within live numbered w grows distinct fits numbers interns g =
     let l = n.blocks b live in
-    let key_same : l.1 ≡ key = same_some l.1 key (sym (led_key old l.0 b l.1 l.2) ∙ numbered) in
+    let key_same : l.1 ≡ key = same_some l.1 key (sym (leads_key old l.0 b l.1 l.2) ∙ numbered) in
     let here : key_at (block_keys labels old) b ≡ Some key = key_there labels old l.0 b key live (subst (λ (x : List ℕ). Leads old l.0 b x) key_same l.2) in
     let keyed = numbering_keyed labels old n in
     let pushed = carried_push labels old now known.table b k key n here w interns in
@@ -67,9 +67,9 @@ carried_next labels old now known new b k key n within live numbered w grows dis
       distinct = subst AreDistinct (sym g.table) distinct;
       fits = omega (arith, tables, blocks, fits);
       span = omega (arith, spans, stays, span);
-      led = λ c x h e. elim (cases_lt c b) [
+      leads = λ c x h e. elim (cases_lt c b) [
         | inl before ↦
-            (let m = w.led c x before e in (
+            (let m = w.leads c x before e in (
               m.0,
               given_there known new b m.0 c key x g (λ same. omega (arith, before, same))
                   (λ same. (let f : c ≡ b = keyed.apart c b key (subst (λ (y : List ℕ). key_at (block_keys labels old) c ≡ Some y) same e) here in omega (arith, before, f)))
@@ -97,8 +97,8 @@ carried_past labels old now b within none w =
       distinct = w.distinct;
       fits = w.fits;
       span = w.span;
-      led = λ c x h e. elim (cases_lt c b) [
-        | inl before ↦ w.led c x before e
+      leads = λ c x h e. elim (cases_lt c b) [
+        | inl before ↦ w.leads c x before e
         | inr past ↦
             (let at_b : c ≡ b = omega (arith, h, past) in
             absurd (true≢false (sym (block_there labels old c x e) ∙ ap (λ n. is_some (at labels n)) at_b ∙ none)))
@@ -119,7 +119,7 @@ carried_numbering labels old new n w = record {
   fits = w.fits;
   blocks = λ b h.
       (let key = some_of (key_at (block_keys labels old) b) ((numbering_keyed labels old n).exactly b ∙ h) in
-      let l = w.led b key.0 (some_below labels b h) key.1 in
+      let l = w.leads b key.0 (some_below labels b h) key.1 in
       (l.0, key.0, l.1));
 }
 
@@ -127,8 +127,8 @@ pub carried_keys : (labels : List (Option ℕ)) (old new : Numbering) → IsNumb
 carried_keys labels old new n w = keys_alike (numbered_key new) (numbered_key old) 0 labels (λ b h.
     let e : 0 + b ≡ b = omega arith in
     let m = n.blocks b h in
-    let l = w.led b m.1 (some_below labels b h) (key_there labels old m.0 b m.1 h m.2) in
-    subst (λ i. numbered_key new i ≡ numbered_key old i) (sym e) (led_key new l.0 b m.1 l.1 ∙ sym (led_key old m.0 b m.1 m.2)))
+    let l = w.leads b m.1 (some_below labels b h) (key_there labels old m.0 b m.1 h m.2) in
+    subst (λ i. numbered_key new i ≡ numbered_key old i) (sym e) (leads_key new l.0 b m.1 l.1 ∙ sym (leads_key old m.0 b m.1 m.2)))
 
 pub carried_few : (labels : List (Option ℕ)) (old new : Numbering) → AreCarried labels old new (length labels) → AreFew (length new.table) (count_by is_some labels) (length labels)
 carried_few labels old new w =

@@ -10,7 +10,7 @@ use Rattle.key_table.specs.NumberedKeys.{AreDistinct}
 use Rattle.keyed_quotient.specs.KeyedQuotients.{KeyedQuotient, key_at}
 use Rattle.keyed_quotient.specs.Changes.{KeyedChanges, labels_as_shown, IsKeyedOver, IsKnown}
 use Rattle.keyed_quotient.specs.Numberings.{Numbering, numbered_key, keys_from, block_keys, Leads, IsNumbering, Grows}
-use Rattle.keyed_quotient.proofs.Numbered.{led_key}
+use Rattle.keyed_quotient.proofs.Numbered.{leads_key}
 
 pub grows_same : (t : Numbering) → Grows t t
 grows_same t = record { table = λ k key e. e; block_of = λ k b e. e; number_of = λ b k e. e }
@@ -46,7 +46,7 @@ pub keys_grown : (labels : List (Option ℕ)) (t u : Numbering) → IsNumbering 
 keys_grown labels t u n g = keys_alike (numbered_key u) (numbered_key t) 0 labels (λ b h.
     let l = n.blocks b h in
     let e : 0 + b ≡ b = omega arith in
-    subst (λ m. numbered_key u m ≡ numbered_key t m) (sym e) (led_key u l.0 b l.1 (leads_grown t u l.0 b l.1 g l.2) ∙ sym (led_key t l.0 b l.1 l.2)))
+    subst (λ m. numbered_key u m ≡ numbered_key t m) (sym e) (leads_key u l.0 b l.1 (leads_grown t u l.0 b l.1 g l.2) ∙ sym (leads_key t l.0 b l.1 l.2)))
 
 -- the same where the labels are equal
 pub keys_stay : (labels labels2 : List (Option ℕ)) (t u : Numbering) → labels2 ≡ labels → IsNumbering labels t → Grows t u → block_keys labels2 u ≡ block_keys labels t

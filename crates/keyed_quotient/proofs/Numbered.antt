@@ -22,12 +22,12 @@ keys_at f from (l ∷ labels) (suc b) =
 pub block_key : (labels : List (Option ℕ)) (t : Numbering) (b : ℕ) → key_at (block_keys labels t) b ≡ cond (is_some (at labels b)) (numbered_key t b) None
 block_key labels t b = keys_at (numbered_key t) 0 labels b ∙ ap (λ n. cond (is_some (at labels b)) (numbered_key t n) None) (let e : 0 + b ≡ b = omega arith in e)
 
-pub led_key : (t : Numbering) (k b : ℕ) (key : List ℕ) → Leads t k b key → numbered_key t b ≡ Some key
-led_key t k b key l = ap (option_and_then (slice_get t.table)) l.number ∙ l.key_is
+pub leads_key : (t : Numbering) (k b : ℕ) (key : List ℕ) → Leads t k b key → numbered_key t b ≡ Some key
+leads_key t k b key l = ap (option_and_then (slice_get t.table)) l.number ∙ l.key_is
 
 -- a block that its number leads to has the key
 pub key_there : (labels : List (Option ℕ)) (t : Numbering) (k b : ℕ) (key : List ℕ) → IsSome (at labels b) → Leads t k b key → key_at (block_keys labels t) b ≡ Some key
-key_there labels t k b key h l = block_key labels t b ∙ ap (λ s. cond s (numbered_key t b) None) h ∙ led_key t k b key l
+key_there labels t k b key h l = block_key labels t b ∙ ap (λ s. cond s (numbered_key t b) None) h ∙ leads_key t k b key l
 
 -- only a block has a key
 pub block_there : (labels : List (Option ℕ)) (t : Numbering) (b : ℕ) (key : List ℕ) → key_at (block_keys labels t) b ≡ Some key → IsSome (at labels b)
@@ -65,8 +65,8 @@ numbering_keyed labels t n = record {
 }
 
 -- a block with the key is the one to which the number of the key leads
-pub led_to : (labels : List (Option ℕ)) (t : Numbering) (k b : ℕ) (key : List ℕ) → IsNumbering labels t → slice_get t.table k ≡ Some key → key_at (block_keys labels t) b ≡ Some key → Leads t k b key
-led_to labels t k b key n at_k e =
+pub leads_back : (labels : List (Option ℕ)) (t : Numbering) (k b : ℕ) (key : List ℕ) → IsNumbering labels t → slice_get t.table k ≡ Some key → key_at (block_keys labels t) b ≡ Some key → Leads t k b key
+leads_back labels t k b key n at_k e =
     let l = leads_there labels t b key n e in
     let same : l.0 ≡ k = n.distinct.apart l.0 k key l.1.key_is at_k in
     subst (λ (m : ℕ). Leads t m b key) same l.1
@@ -74,27 +74,27 @@ led_to labels t k b key n at_k e =
 pub absent_no : (labels : List (Option ℕ)) (t : Numbering) (key : List ℕ) → IsNumbering labels t → IsAbsent t.table key → (b : ℕ) → (None ≡ Some b) ↔ (key_at (block_keys labels t) b ≡ Some key)
 absent_no labels t key n absent b = (λ e. absurd (true≢false (sym (ap is_some e))), λ e. let l = leads_there labels t b key n e in absurd (absent l.0 l.1.key_is))
 
-pub unled_no : (labels : List (Option ℕ)) (t : Numbering) (k : ℕ) (key : List ℕ) → IsNumbering labels t → slice_get t.table k ≡ Some key → slice_get t.block_of k ≡ None
+pub blockless_no : (labels : List (Option ℕ)) (t : Numbering) (k : ℕ) (key : List ℕ) → IsNumbering labels t → slice_get t.table k ≡ Some key → slice_get t.block_of k ≡ None
     → (b : ℕ) → (None ≡ Some b) ↔ (key_at (block_keys labels t) b ≡ Some key)
-unled_no labels t k key n at_k none b =
-    (λ e. absurd (true≢false (sym (ap is_some e))), λ e. absurd (true≢false (ap is_some (sym (led_to labels t k b key n at_k e).block ∙ none))))
+blockless_no labels t k key n at_k none b =
+    (λ e. absurd (true≢false (sym (ap is_some e))), λ e. absurd (true≢false (ap is_some (sym (leads_back labels t k b key n at_k e).block ∙ none))))
 
-pub led_yes : (labels : List (Option ℕ)) (t : Numbering) (k c : ℕ) (key : List ℕ) → IsNumbering labels t → slice_get t.table k ≡ Some key → slice_get t.block_of k ≡ Some c
+pub numbered_yes : (labels : List (Option ℕ)) (t : Numbering) (k c : ℕ) (key : List ℕ) → IsNumbering labels t → slice_get t.table k ≡ Some key → slice_get t.block_of k ≡ Some c
     → IsSome (at labels c) → slice_get t.number_of c ≡ Some k → (b : ℕ) → (Some c ≡ Some b) ↔ (key_at (block_keys labels t) b ≡ Some key)
-led_yes labels t k c key n at_k block h number b =
+numbered_yes labels t k c key n at_k block h number b =
     let l : Leads t k c key = record { number = number; block = block; key_is = at_k } in
     let here : key_at (block_keys labels t) c ≡ Some key = key_there labels t k c key h l in (
       λ e. subst (λ (m : ℕ). key_at (block_keys labels t) m ≡ Some key) (same_some c b e) here,
-      λ e. sym block ∙ (led_to labels t k b key n at_k e).block,
+      λ e. sym block ∙ (leads_back labels t k b key n at_k e).block,
     )
 
-pub led_no : (labels : List (Option ℕ)) (t : Numbering) (k c : ℕ) (key : List ℕ) → IsNumbering labels t → slice_get t.table k ≡ Some key → slice_get t.block_of k ≡ Some c
+pub numbered_no : (labels : List (Option ℕ)) (t : Numbering) (k c : ℕ) (key : List ℕ) → IsNumbering labels t → slice_get t.table k ≡ Some key → slice_get t.block_of k ≡ Some c
     → (IsSome (at labels c) → slice_get t.number_of c ≡ Some k → ⊥) → (b : ℕ) → (None ≡ Some b) ↔ (key_at (block_keys labels t) b ≡ Some key)
-led_no labels t k c key n at_k block unled b = (
+numbered_no labels t k c key n at_k block unnumbered b = (
   λ e. absurd (true≢false (sym (ap is_some e))),
-  λ e. let l = led_to labels t k b key n at_k e in
+  λ e. let l = leads_back labels t k b key n at_k e in
       let same : b ≡ c = same_some b c (sym l.block ∙ block) in
-      absurd (unled (subst (λ (m : ℕ). IsSome (at labels m)) same (block_there labels t b key e)) (ap (slice_get t.number_of) (sym same) ∙ l.number)),
+      absurd (unnumbered (subst (λ (m : ℕ). IsSome (at labels m)) same (block_there labels t b key e)) (ap (slice_get t.number_of) (sym same) ∙ l.number)),
 )
 
 -- the keys of a table, each that of the block with its number

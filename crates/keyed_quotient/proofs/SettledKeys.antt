@@ -15,7 +15,7 @@ use Rattle.quotient_draft.specs.Drafts.{has_member, inhabited_from}
 use Rattle.keyed_quotient.specs.KeyedQuotients.{KeyedQuotient, key_at}
 use Rattle.keyed_quotient.specs.Changes.{KeyedChanges, blocks_as_shown, labels_as_shown, shown_key, settled_key, IsKeyedOver}
 use Rattle.keyed_quotient.specs.Numberings.{Numbering, numbered_key, block_keys, Leads, IsNumbering, AreApart, GivenBelow, IsNoneBelow}
-use Rattle.keyed_quotient.proofs.Numbered.{test_is, block_key, led_key, leads_there}
+use Rattle.keyed_quotient.proofs.Numbered.{test_is, block_key, leads_key, leads_there}
 use Rattle.keyed_quotient.proofs.DraftedKeys.{number_is}
 
 none_left : (t : Bool) (o : Option ℕ) → o ≡ None → cond t o None ≡ o
@@ -61,9 +61,9 @@ lookup_cases None p key e = inr (refl, e)
 lookup_cases (Some x) p key e = inl e
 
 -- each block as shown is led to by its key
-pub all_led : (q : KeyedQuotient) (d : KeyedChanges) (labels : List (Option ℕ)) (old now : Numbering) → IsKeyedOver q d → q.keys ≡ block_keys labels old → IsNumbering labels old
+pub all_lead : (q : KeyedQuotient) (d : KeyedChanges) (labels : List (Option ℕ)) (old now : Numbering) → IsKeyedOver q d → q.keys ≡ block_keys labels old → IsNumbering labels old
     → GivenBelow d.keys (length d.keys) old now → (b : ℕ) (key : List ℕ) → shown_key q d b ≡ Some key → (k : ℕ) × Leads now k b key
-all_led q d labels old now o keys n w b key e = elim (lookup_cases (lookup (nat_eq b) d.keys) (key_at q.keys b) key e) [
+all_lead q d labels old now o keys n w b key e = elim (lookup_cases (lookup (nat_eq b) d.keys) (key_at q.keys b) key e) [
   | inl found ↦
       (let p = place_from_lookup (nat_eq b) d.keys key found in
       let same : b ≡ p.1 = number_is b p.1 p.3 in
@@ -102,7 +102,7 @@ settled_numbering q d labels labels2 old now o keys n left w = record {
   blocks = λ b h.
       let shown : IsSome (at (labels_as_shown q d) b) = left_shown q d labels2 left b h in
       let key = some_of (shown_key q d b) (o.keyed.exactly b ∙ shown) in
-      let l = all_led q d labels old now o keys n w b key.0 key.1 in
+      let l = all_lead q d labels old now o keys n w b key.0 key.1 in
       (l.0, key.0, l.1);
 }
 
@@ -120,8 +120,8 @@ settled_keys q d labels labels2 old now o keys n left w b = block_key labels2 no
       ∙ elim (test_is (is_some (at (labels_as_shown q d) b))) [
         | inl live ↦
             (let key = some_of (shown_key q d b) (o.keyed.exactly b ∙ live) in
-            let l = all_led q d labels old now o keys n w b key.0 key.1 in
-            ap (λ t. cond t (numbered_key now b) None) live ∙ led_key now l.0 b key.0 l.1 ∙ sym key.1)
+            let l = all_lead q d labels old now o keys n w b key.0 key.1 in
+            ap (λ t. cond t (numbered_key now b) None) live ∙ leads_key now l.0 b key.0 l.1 ∙ sym key.1)
         | inr dead ↦ ap (λ t. cond t (numbered_key now b) None) dead ∙ sym (no_key (shown_key q d b) (o.keyed.exactly b ∙ dead))
       ]
       ∙ sym (ap (λ t. cond t (shown_key q d b) None) some)

@@ -13,7 +13,7 @@ pub record AreCarried (labels : List (Option ℕ)) (old new : Numbering) (b : �
   -- each block has a place for its number
   pub span : length labels ≤ length new.number_of
   -- the key of each block below b stands there, and leads to it and back
-  pub led : (c : ℕ) (key : List ℕ) → c < b → key_at (block_keys labels old) c ≡ Some key → (k : ℕ) × Leads new k c key
+  pub leads : (c : ℕ) (key : List ℕ) → c < b → key_at (block_keys labels old) c ≡ Some key → (k : ℕ) × Leads new k c key
   -- there are no other keys
   pub only : (k : ℕ) (key : List ℕ) → slice_get new.table k ≡ Some key → (c : ℕ) × (c < b) × (key_at (block_keys labels old) c ≡ Some key)
   -- there are as many keys as such blocks

@@ -8,7 +8,7 @@ use Rattle.graph_spec.specs.Members.{at}
 use Rattle.quotient.specs.Quotients.{view_of}
 use Rattle.quotient_draft.specs.Drafts.{Drafted, drafted_code, no_changes, has_member, shown_blocks, shown_labels, shown_support, settled_view}
 use Rattle.quotient_draft.specs.Basis.{IsOver}
-use Rattle.quotient_draft.specs.ReservedCapacity.{HasRoomFor}
+use Rattle.quotient_draft.specs.ReservedCapacity.{HasReservedFor}
 use Rattle.keyed_quotient.specs.KeyedQuotients.{KeyedQuotient, key_at, AreKeyed}
 
 -- what is drafted over a quotient with keys
@@ -63,7 +63,7 @@ IsKnown known key = (k : ℕ) × (slice_get known k ≡ Some key)
 -- the base has capacity reserved for what the draft shows
 pub record HasReservedKeys (q : KeyedQuotient) (d : KeyedChanges) : Type 0 where
   -- capacity for the blocks, the supports and the moves
-  pub quotient : HasRoomFor q.quotient d.drafted
+  pub quotient : HasReservedFor q.quotient d.drafted
   -- each new key is known to the base
   pub known : (i b : ℕ) (key : List ℕ) → slice_get d.keys i ≡ Some (b, key) → IsKnown q.reserved.known key
   -- each new block is below the span

@@ -93,13 +93,13 @@ fn find_in(summary: &Summary, numbers: &KeyNumbers, key: &[u32]) -> Option<u32>
     ensures block { IfSome result (IsBlock summary.now.blocks) }
 {
     match numbers.number(key) {
-        Some(k) => led_block(summary, numbers, k, key),
+        Some(k) => block_with_number(summary, numbers, k, key),
         None => None,
     }
 }
 
 // The block to which the number of a key leads, where that leads back.
-fn led_block(summary: &Summary, numbers: &KeyNumbers, k: u32, key: &[u32]) -> Option<u32>
+fn block_with_number(summary: &Summary, numbers: &KeyNumbers, k: u32, key: &[u32]) -> Option<u32>
     requires numbering { IsNumbering summary.now.blocks.labels numbers.now }
     requires key { slice_get numbers.now.table k ≡ Some key.now }
     ensures leads { (b : ℕ) → (result ≡ Some b) ↔ (key_at (block_keys summary.now.blocks.labels numbers.now) b ≡ Some key.now) }
@@ -108,7 +108,7 @@ fn led_block(summary: &Summary, numbers: &KeyNumbers, k: u32, key: &[u32]) -> Op
     // The contract alone reads the key.
     let _ = key;
     match numbers.block(k) {
-        Some(b) => if is_led(summary, numbers, k, b) {
+        Some(b) => if has_number(summary, numbers, k, b) {
             Some(b)
         } else {
             None
@@ -118,7 +118,7 @@ fn led_block(summary: &Summary, numbers: &KeyNumbers, k: u32, key: &[u32]) -> Op
 }
 
 // Whether the number of a key is that of the block.
-fn is_led(summary: &Summary, numbers: &KeyNumbers, k: u32, b: u32) -> bool
+fn has_number(summary: &Summary, numbers: &KeyNumbers, k: u32, b: u32) -> bool
     ensures yes { IsTrue result → IsSome (at summary.now.blocks.labels b) × (slice_get numbers.now.number_of b ≡ Some k) }
     ensures no { IsFalse result → IsSome (at summary.now.blocks.labels b) → slice_get numbers.now.number_of b ≡ Some k → ⊥ }
 {

@@ -13,7 +13,7 @@ use Rattle.graph_spec.specs.Graphs.{is_seen}
 use Rattle.graph_spec.specs.Members.{has}
 use Rattle.graph_spec.proofs.ListLemmas.{found}
 use Rattle.label_graph.specs.LabelTable.{LabelTable, entries, AreEntries, without_number}
-use Rattle.label_graph.specs.ReservedGraphs.{entry_texts, has_text, without_text}
+use Rattle.label_graph.specs.ReservedGraphs.{entry_texts, without_text}
 use Rattle.label_graph.proofs.Positions.{position-at, position-none, position-take-late}
 use Rattle.label_graph.proofs.Tables.{bytes_laws}
 
@@ -40,16 +40,16 @@ first-found test xs h =
     ] refl
 
 module _ (table : LabelTable) (t : List ℕ) where
-  any-entry : (ls : List ℕ) → AreEntries (length (entries table)) ls → IsTrue (has_text (entry_texts table ls) t) → IsTrue (is_seen (entries table) t)
+  any-entry : (ls : List ℕ) → AreEntries (length (entries table)) ls → IsTrue (is_seen (entry_texts table ls) t) → IsTrue (is_seen (entries table) t)
   any-entry [] a h = absurd (true≢false (sym h))
   any-entry (m ∷ ms) a h =
-      elim (bytes_eq t (get_or (entries table) m [])) as (λ b. bytes_eq t (get_or (entries table) m []) ≡ b → IsTrue (b || has_text (entry_texts table ms) t) → IsTrue (is_seen (entries table) t)) [
+      elim (bytes_eq t (get_or (entries table) m [])) as (λ b. bytes_eq t (get_or (entries table) m []) ≡ b → IsTrue (b || is_seen (entry_texts table ms) t) → IsTrue (is_seen (entries table) t)) [
         | true ↦ λ q k. list_any_at (bytes_eq t) (entries table) m [] a.0 q
         | false ↦ λ q k. any-entry ms a.1 k
       ] refl h
 
   -- a reserved label is an entry
-  pub text-found : (ls : List ℕ) → AreEntries (length (entries table)) ls → IsTrue (has_text (entry_texts table ls) t) → IsSome (position (bytes_eq t) (entries table))
+  pub text-found : (ls : List ℕ) → AreEntries (length (entries table)) ls → IsTrue (is_seen (entry_texts table ls) t) → IsSome (position (bytes_eq t) (entries table))
   text-found ls a h = first-found (bytes_eq t) (entries table) (any-entry ls a h)
 
   module _ (l : ℕ) (once : IsDistinct bytes_eq (entries table)) (is : slice_get (entries table) l ≡ Some t) where
@@ -68,9 +68,9 @@ module _ (table : LabelTable) (t : List ℕ) where
               true≢false (sym (bytes_laws.refl t) ∙ ap (bytes_eq t) (sym (get_or_from_slice_get (entries table) l t [] is)) ∙ ap (λ k. bytes_eq t (get_or (entries table) k [])) e ∙ q)))
         ] refl
 
-    pub number-there : (ls : List ℕ) → AreEntries (length (entries table)) ls → has_text (entry_texts table ls) t ≡ has ls l
+    pub number-there : (ls : List ℕ) → AreEntries (length (entries table)) ls → is_seen (entry_texts table ls) t ≡ has ls l
     number-there [] a = refl
-    number-there (m ∷ ms) a = ap (λ b. b || has_text (entry_texts table ms) t) (same-test m a.0) ∙ ap (λ b. nat_eq l m || b) (number-there ms a.1)
+    number-there (m ∷ ms) a = ap (λ b. b || is_seen (entry_texts table ms) t) (same-test m a.0) ∙ ap (λ b. nat_eq l m || b) (number-there ms a.1)
 
     pub texts-taken : (ls : List ℕ) → AreEntries (length (entries table)) ls → entry_texts table (without_number ls l) ≡ without_text (entry_texts table ls) t
     texts-taken [] a = refl

@@ -43,10 +43,6 @@ starting u pairs = count_by (λ p. nat_eq p.0 u) pairs
 abbrev pub ending : ℕ → List (ℕ × ℕ) → ℕ
 ending v pairs = count_by (λ p. nat_eq p.1 v) pairs
 
--- the label is among those that are reserved
-abbrev pub has_text : List (List ℕ) → List ℕ → Bool
-has_text texts t = list_any (bytes_eq t) texts
-
 -- the texts but the first that is t
 abbrev pub without_text : List (List ℕ) → List ℕ → List (List ℕ)
 without_text texts t = remove_key (bytes_eq t) texts

@@ -1,12 +1,12 @@
 // The graph.
 ghost use Rattle.std.specs.Prelude.{◌≡◌, ◌<◌, ◌≤◌, ◌+◌, ◌^◌, ◌↔◌, length, IsTrue, IfOk, OnOk, OnErr, IfSome, IfNone, Some, slice_get, true, false, List, ℕ, is_some};
 ghost use Rattle.std.specs.FinSet as set;
-ghost use Rattle.graph_spec.specs.Graphs.{IsGraph, empty_graph, is_live, label_of, has_edge};
+ghost use Rattle.graph_spec.specs.Graphs.{IsGraph, empty_graph, is_live, label_of, has_edge, is_seen};
 ghost use Rattle.graph_spec.specs.Changes.{with_edge, without_edge, without_node, is_used};
 ghost use Rattle.graph_spec.specs.Members.{Lists};
 ghost use Rattle.graph_spec.specs.Shapes.{shape_of};
 ghost use Rattle.change_spec.specs.Steps.{labelled};
-ghost use Rattle.label_graph.specs.ReservedGraphs.{none_reserved, with_reserved_label, with_reserved_pair, with_reserved_relabel, without_reserved_pair, without_reserved_relabel, has_pair, has_text, can_be_joined, FitsLabels, FirstFitsLabels, AddsReserved};
+ghost use Rattle.label_graph.specs.ReservedGraphs.{none_reserved, with_reserved_label, with_reserved_pair, with_reserved_relabel, without_reserved_pair, without_reserved_relabel, has_pair, can_be_joined, FitsLabels, FirstFitsLabels, AddsReserved};
 ghost use Rattle.label_graph.specs.GraphViews.{label_number, is_linked, numbered_shape, live_count, edge_count};
 
 use crate::labels::Labels;
@@ -332,7 +332,7 @@ impl Graph {
     /// one that the node had stays among them. Expected O(b + r) for a label of b bytes, where r labels are reserved, no
     /// memory.
     pub fn set_label(&mut self, u: NodeId, label: &Text)
-        requires reserved { IsTrue (has_text self.old.reserved.relabels label.now) }
+        requires reserved { IsTrue (is_seen self.old.reserved.relabels label.now) }
         requires live { IsTrue (is_live self.old.graph u) }
         requires few_labels { FitsLabels self.old.graph label.now }
         ensures graph { self.new.graph ≡ labelled self.old.graph u label.now }

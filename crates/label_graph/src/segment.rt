@@ -232,13 +232,13 @@ pub(crate) fn is_last(list: &[u32], n: u32) -> bool
 fn position_of(list: &[u32], n: u32) -> Option<usize>
     ensures { result ≡ position (nat_eq n) list.now }
 {
-    let front = front_without(list, n);
-    let at = position_near(&list[front..], n)?;
+    let front = prefix_without(list, n);
+    let at = position_by_one(&list[front..], n)?;
     Some(front + at)
 }
 
 // The same, number by number.
-fn position_near(list: &[u32], n: u32) -> Option<usize>
+fn position_by_one(list: &[u32], n: u32) -> Option<usize>
     ensures { result ≡ position (nat_eq n) list.now }
 {
     list.iter().position(|m| n == *m)
@@ -246,7 +246,7 @@ fn position_near(list: &[u32], n: u32) -> Option<usize>
 
 // How many places at the front don't have the number, in whole pieces. A piece is searched as `contains` does it,
 // several numbers at a time.
-fn front_without(list: &[u32], n: u32) -> usize
+fn prefix_without(list: &[u32], n: u32) -> usize
     ensures within { result ≤ length list.now }
     ensures without { has (take result list.now) n ≡ false }
 {

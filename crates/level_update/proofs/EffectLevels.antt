@@ -27,7 +27,7 @@ use Rattle.level_spec.specs.Keyed.{KeysStay, AreLabelled, IsLevelOf, LabelsGoUp,
 use Rattle.ak_family.specs.Families.{level_at, blocks_at}
 use Rattle.ak_family.specs.LevelDrafts.{changes_at, blocks_shown, labels_shown, support_shown, key_shown, AreOver, AreSameBut, KeepsAllButSupports, KeepsLabelsAndKeys}
 use Rattle.level_update.specs.Placed.{LabelsKept}
-use Rattle.level_update.specs.LevelEffects.{AreBases, KeyHasLabel, own_number, HasOwnKey, KeysBegin, IsLevelOnWay, IsLevelRelabelled, IsLevelDrafted, IsDraftedBelow, AreLevelsDrafted, IsNodeJoined, IsNodeLeft, IsEdgeLowered, IsEdgeRaised}
+use Rattle.level_update.specs.LevelEffects.{AreBases, KeyHasLabel, own_number, HasOwnKey, KeysBegin, IsLevelOnWay, IsLevelRelabelled, IsLevelDrafted, IsDraftedBelow, AreLevelsDrafted, IsNodeAdded, IsNodeLeft, IsEdgeLowered, IsEdgeRaised}
 use Rattle.level_update.proofs.Bases.{next_is}
 use Rattle.level_update.proofs.Unchanged.{none_blocks, none_labels, none_support, none_key}
 
@@ -134,7 +134,7 @@ own_labelled g2 came f d (suc i) n label number below over h begin is own b e =
     r.2 ∙ sym r.1 ∙ below_label g2 came f d i n label number below is own
 
 pub begin_joined : (g2 : Graph) (came : List ℕ) (f : List KeyedQuotient) (d d2 : List KeyedChanges) (i n label number : ℕ) → IsDraftedBelow came g2 f d i → AreSameBut i d d2
-    → label_number g2 n ≡ Some label → own_number f d label n i ≡ Some number → IsNodeJoined f i n label number d d2 → KeysBegin f d i → KeysBegin f d2 i
+    → label_number g2 n ≡ Some label → own_number f d label n i ≡ Some number → IsNodeAdded f i n label number d d2 → KeysBegin f d i → KeysBegin f d2 i
 begin_joined g2 came f d d2 zero n label number below others is own j begin = record {
   is = λ b l e. elim (eqb_tells b j.block) [
     | inl s ↦ (
@@ -159,7 +159,7 @@ begin_joined g2 came f d d2 (suc i) n label number below others is own j begin =
     still b = ap (λ (c : KeyedChanges). at (labels_as_shown (level_at f i) c) b) (others i (λ e. absurd (omega (arith, e))))
 
 -- the node that has come is in the block of its own number
-pub own_joined : (f : List KeyedQuotient) (d d2 : List KeyedChanges) (i n label number : ℕ) → AreSameBut i d d2 → own_number f d label n i ≡ Some number → IsNodeJoined f i n label number d d2
+pub own_joined : (f : List KeyedQuotient) (d d2 : List KeyedChanges) (i n label number : ℕ) → AreSameBut i d d2 → own_number f d label n i ≡ Some number → IsNodeAdded f i n label number d d2
     → HasOwnKey f d2 i n
 own_joined f d d2 zero n label number others own j = tt
 own_joined f d d2 (suc i) n label number others own j = (
@@ -172,7 +172,7 @@ own_joined f d d2 (suc i) n label number others own j = (
 
 pub way_joined : (g g2 : Graph) (all came : List ℕ) (f : List KeyedQuotient) (d d2 : List KeyedChanges) (i n label number : ℕ) → IsGraph g → is_live g n ≡ false
     → IsDraftedBelow all g2 f d i → IsLevelOnWay g2 g came [] f d i → AreSameBut i d d2 → label_number g2 n ≡ Some label → own_number f d label n i ≡ Some number
-    → IsNodeJoined f i n label number d d2 → ((x y : ℕ) → support_shown f d2 i x y ≡ support_shown f d i x y) → IsLevelOnWay g2 g (came ++ n ∷ []) [] f d2 i
+    → IsNodeAdded f i n label number d d2 → ((x y : ℕ) → support_shown f d2 i x y ≡ support_shown f d i x y) → IsLevelOnWay g2 g (came ++ n ∷ []) [] f d2 i
 way_joined g g2 all came f d d2 i n label number graph dead below w others is own j counts = record {
   over = j.over;
   begin = begin_joined g2 all f d d2 i n label number below others is own j w.begin;

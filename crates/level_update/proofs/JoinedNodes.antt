@@ -5,11 +5,11 @@ use Rattle.quotient_draft.specs.Drafts.{PutsNode}
 use Rattle.keyed_quotient.specs.KeyedQuotients.{KeyedQuotient}
 use Rattle.keyed_quotient.specs.Changes.{KeyedChanges}
 use Rattle.ak_family.specs.LevelDrafts.{blocks_shown, labels_shown, key_shown, AreOver, ShowsBlock}
-use Rattle.level_update.specs.LevelEffects.{IsNodeJoined}
+use Rattle.level_update.specs.LevelEffects.{IsNodeAdded}
 
 pub joined_node : (f : List KeyedQuotient) (i n label number b : ℕ) (d d1 d2 : List KeyedChanges) → ShowsBlock f i d d1 label (number ∷ []) b
     → at (labels_shown f d1 i) b ≡ Some label → blocks_shown f d1 i ≡ blocks_shown f d i → PutsNode n (Some b) (blocks_shown f d1 i) (blocks_shown f d2 i)
-    → labels_shown f d2 i ≡ labels_shown f d1 i → ((x : ℕ) → key_shown f d2 i x ≡ key_shown f d1 i x) → AreOver f d2 → IsNodeJoined f i n label number d d2
+    → labels_shown f d2 i ≡ labels_shown f d1 i → ((x : ℕ) → key_shown f d2 i x ≡ key_shown f d1 i x) → AreOver f d2 → IsNodeAdded f i n label number d d2
 joined_node f i n label number b d d1 d2 made named same put labels keys over = record {
   block = b;
   blocks = subst (λ (p : List (Option ℕ)). PutsNode n (Some b) p (blocks_shown f d2 i)) same put;

@@ -15,7 +15,7 @@ use Rattle.graph_effects.proofs.EffectLaws.{has_last, put_else}
 use Rattle.keyed_quotient.specs.KeyedQuotients.{KeyedQuotient}
 use Rattle.keyed_quotient.specs.Changes.{KeyedChanges}
 use Rattle.ak_family.specs.LevelDrafts.{blocks_shown, labels_shown, support_shown, AreSameBut}
-use Rattle.level_update.specs.LevelEffects.{own_number, lone_nodes, HasOwnKey, IsLevelRelabelled, IsLevelDrafted, IsDraftedBelow, IsNodeJoined}
+use Rattle.level_update.specs.LevelEffects.{own_number, lone_nodes, HasOwnKey, IsLevelRelabelled, IsLevelDrafted, IsDraftedBelow, IsNodeAdded}
 use Rattle.level_update.proofs.EffectLevels.{same_some, own_stays, begin_joined, own_joined}
 use Rattle.level_update.proofs.MovedNodes.{partition_put}
 
@@ -31,7 +31,7 @@ last_has moved n m same = has_last moved n m ∙ ap (λ b. has moved m || b) sam
 
 pub relabelled_next : (e : EffectLists) (moved : List ℕ) (g2 : Graph) (f : List KeyedQuotient) (d d2 : List KeyedChanges) (i n label number : ℕ) → IsDraftedBelow (lone_nodes e) g2 f d i
     → IsLevelRelabelled e moved g2 f d i → AreSameBut i d d2 → IsTrue (is_live g2 n) → label_number g2 n ≡ Some label → own_number f d label n i ≡ Some number
-    → IsNodeJoined f i n label number d d2 → AreEdgeCounts g2 (blocks_shown f d2 i) (support_shown f d2 i) → IsLevelRelabelled e (moved ++ n ∷ []) g2 f d2 i
+    → IsNodeAdded f i n label number d d2 → AreEdgeCounts g2 (blocks_shown f d2 i) (support_shown f d2 i) → IsLevelRelabelled e (moved ++ n ∷ []) g2 f d2 i
 relabelled_next e moved g2 f d d2 i n label number under w others live is own j counts = record {
   over = j.over;
   partition = partition_put (shape_of g2) (blocks_shown f d i) (blocks_shown f d2 i) n j.block w.partition live j.blocks;

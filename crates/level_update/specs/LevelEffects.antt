@@ -170,7 +170,7 @@ abbrev pub keeps_keys : List ℕ → EffectLists → Bool
 keeps_keys ends e = nat_eq (length ends) 0 || ((nat_eq (length e.lost) 0 && nat_eq (length e.added) 0) && nat_eq (length e.relabelled) 0)
 
 -- the node is in a block of the level with this label, whose key is this number alone
-pub record IsNodeJoined (f : List KeyedQuotient) (i n label number : ℕ) (d d2 : List KeyedChanges) : Type 0 where
+pub record IsNodeAdded (f : List KeyedQuotient) (i n label number : ℕ) (d d2 : List KeyedChanges) : Type 0 where
   -- the block of the node
   pub block : ℕ
   -- the node is in it, and each other node is where it was

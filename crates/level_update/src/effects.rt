@@ -13,8 +13,8 @@ ghost use Rattle.level_update.specs.LevelCosts.{move_cost, most_move_steps, most
 ghost use Rattle.level_update.specs.MovedLevels.{HasMovedAffected, HasMovedNear, AreKeyedAffected, AreMoved};
 ghost use Rattle.level_update.specs.LevelEffects.{AreLevelsBefore, AreKeyedBases, IsDraftedBelow, IsLevelRelabelled, IsLevelDrafted, AreLevelsDrafted, lone_nodes, keeps_keys};
 
+use crate::adding::add_nodes;
 use crate::counting::{lower_edges, raise_edges};
-use crate::joining::join_nodes;
 use crate::leaving::leave_nodes;
 use crate::moving::move_affected;
 use crate::nearer::move_nearer;
@@ -47,7 +47,7 @@ fn draft_level(
     ensures over { OnOk result (AreOver family.now draft.new) }
     ensures others { AreSameBut i draft.old draft.new }
 {
-    join_nodes(family, draft, i, after, effects)?;
+    add_nodes(family, draft, i, after, effects)?;
     lower_edges(family, draft, i, after, effects)?;
     leave_nodes(family, draft, i, after, effects)?;
     raise_edges(family, draft, i, after, effects)?;

@@ -2,11 +2,11 @@
 //! level.
 #![tactic(auto)]
 
+mod adding;
 mod buffers;
 mod counting;
 mod drafting;
 mod effects;
-mod joining;
 mod keys;
 mod leaving;
 mod level;

@@ -8,9 +8,9 @@ ghost use Rattle.graph_update.specs.PendingChanges.{graph_after};
 ghost use Rattle.graph_effects.specs.Effects.{AreEffects};
 ghost use Rattle.ak_family.specs.LevelDrafts.{blocks_shown, labels_shown, support_shown, key_shown, AreOver, AreSameBut};
 ghost use Rattle.level_update.specs.LevelCosts.{move_cost};
-ghost use Rattle.level_update.specs.LevelEffects.{KeyHasLabel, lone_nodes, IsDraftedBelow, IsLevelRelabelled, IsNodeJoined};
+ghost use Rattle.level_update.specs.LevelEffects.{KeyHasLabel, lone_nodes, IsDraftedBelow, IsLevelRelabelled, IsNodeAdded};
 
-use crate::joining::{first_number, lone_block};
+use crate::adding::{first_number, lone_block};
 use crate::placing::move_to;
 use ak_family::{AkDraft, AkFamily, LevelBlock};
 use graph_effects::Effects;
@@ -37,7 +37,7 @@ fn relabel_node<L: Ledger>(
     requires partition { IsPartition (shape_of (graph_after after.now)) (blocks_shown family.now draft.old i) }
     requires supports { AreEdgeCounts (graph_after after.now) (blocks_shown family.now draft.old i) (support_shown family.now draft.old i) }
     requires labelled { KeyHasLabel (key_shown family.now draft.old i) (labels_shown family.now draft.old i) (number ∷ []) label }
-    ensures joined { OnOk result (IsNodeJoined family.now i n label number draft.old draft.new) }
+    ensures joined { OnOk result (IsNodeAdded family.now i n label number draft.old draft.new) }
     ensures supports { OnOk result (AreEdgeCounts (graph_after after.now) (blocks_shown family.now draft.new i) (support_shown family.now draft.new i)) }
     ensures others { AreSameBut i draft.old draft.new }
     ensures cost { steps.new ≤ steps.old + move_cost after.now n }

@@ -14,7 +14,7 @@ use Rattle.change_spec.specs.NextOne.{OneStep}
 use Rattle.quotient.specs.Quotients.{Quotient, view_of}
 use Rattle.quotient_draft.specs.Drafts.{Drafted, no_changes, has_member, shown_labels, shown_blocks, shown_support, settled_view, inhabited_from, with_moves, with_added, with_supports}
 use Rattle.quotient_draft.specs.Basis.{IsOver}
-use Rattle.quotient_draft.specs.ReservedCapacity.{HasRoomFor}
+use Rattle.quotient_draft.specs.ReservedCapacity.{HasReservedFor}
 use Rattle.quotient_draft.proofs.Gone.{member_there}
 use Rattle.one_merge.specs.ParentlessBlocks.{ParentlessLists, CoversParentless, CoversBase, CoversShown}
 use Rattle.index_api.specs.Meanings.{IsReady, IsBuilt, IsPrepared, IsCommitted, unstaged}
@@ -39,7 +39,7 @@ from_by v d = (b c : ℕ) → has_member (with_moves v.block_of d.moves) b ≡ f
 abbrev onto_by : View → Drafted → Type 0
 onto_by v d = (b c : ℕ) → has_member (with_moves v.block_of d.moves) b ≡ false → support_at (with_supports v.supports d.supports) c b ≡ 0
 
-pub can_settle : (g : Graph) (q q2 : Quotient) (d : Drafted) → view_of q2 ≡ view_of q → FitsOne g (view_of q) → IsOver q.blocks.block_of q.blocks.labels d → HasRoomFor q2 d
+pub can_settle : (g : Graph) (q q2 : Quotient) (d : Drafted) → view_of q2 ≡ view_of q → FitsOne g (view_of q) → IsOver q.blocks.block_of q.blocks.labels d → HasReservedFor q2 d
     → ((b c : ℕ) → has_member (shown_blocks q d) b ≡ false → shown_support q d b c ≡ 0) → ((b c : ℕ) → has_member (shown_blocks q d) b ≡ false → shown_support q d c b ≡ 0)
     → CanSettle q2 d
 can_settle g q q2 d same fits over reserved from onto =

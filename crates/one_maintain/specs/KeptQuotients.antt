@@ -11,7 +11,7 @@ use Rattle.bisim_spec.specs.Fits.{view_at}
 use Rattle.quotient.specs.Quotients.{Quotient, quotient_code, view_of}
 use Rattle.quotient_draft.specs.Drafts.{Drafted, drafted_code, no_changes, has_member, shown_blocks, shown_support, settled_view}
 use Rattle.quotient_draft.specs.Basis.{IsOver}
-use Rattle.quotient_draft.specs.ReservedCapacity.{HasRoomFor}
+use Rattle.quotient_draft.specs.ReservedCapacity.{HasReservedFor}
 use Rattle.index_api.specs.Meanings.{Meaning}
 use Rattle.one_merge.specs.ParentlessBlocks.{ParentlessLists, CoversBase, CoversShown}
 use Rattle.one_update.specs.OneDrafts.{IsSupported, most_steps}
@@ -36,7 +36,7 @@ pub record CanSettle (q : Quotient) (d : Drafted) : Type 0 where
   -- the draft is over this base
   pub over : IsOver q.blocks.block_of q.blocks.labels d
   -- the base has capacity reserved for what the draft shows
-  pub reserved : HasRoomFor q d
+  pub reserved : HasReservedFor q d
   -- each block of the base has a member there
   pub inhabited : (b : ℕ) → IsSome (at q.blocks.labels b) → IsTrue (has_member q.blocks.block_of b)
   -- a block without members as shown has no support, to others or from them

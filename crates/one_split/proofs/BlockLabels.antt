@@ -6,7 +6,7 @@ use Rattle.graph_spec.specs.Members.{at, has}
 use Rattle.graph_spec.specs.Shapes.{Shape}
 use Rattle.bisim_spec.proofs.Bisimilar.{some_of, none_or_some, is_some_at}
 use Rattle.one_split.specs.Numbered.{HaveNumbers}
-use Rattle.one_split.specs.NodeTargetBlocks.{BeginsAt, target_block_at, HaveGone, TargetBlocksHaveLabels, LabelsStay}
+use Rattle.one_split.specs.NodeTargetBlocks.{BeginsAt, HaveGone, TargetBlocksHaveLabels, LabelsStay}
 use Rattle.one_spec.specs.BlockLabels.{BlocksHaveLabels}
 use Rattle.one_split.proofs.ListIndexes.{place_in, place_found, has_place, place_is}
 use Rattle.one_split.proofs.Chosen.{target_block_cases, one_own}
@@ -17,7 +17,7 @@ some_kept labels labels2 c k h = (let d = some_of (labels c) h in is_some_at (la
 
 pub labels_none : (keys : List (List ℕ)) (target_blocks : List (Option ℕ)) (labels : ℕ → Option ℕ) → target_blocks ≡ [] → TargetBlocksHaveLabels keys target_blocks labels labels
 labels_none keys target_blocks labels e = record {
-  is = λ k own b d h. absurd (let f : target_block_at target_blocks k ≡ None = ap (λ gs. target_block_at gs k) e in let clash : Some b ≡ None = sym h ∙ f in cc);
+  is = λ k own b d h. absurd (let f : at target_blocks k ≡ None = ap (λ gs. at gs k) e in let clash : Some b ≡ None = sym h ∙ f in cc);
 }
 
 -- one target block more
@@ -41,7 +41,7 @@ module _ (s : Shape) (p p2 : List (Option ℕ)) (keys : List (List ℕ)) (nodes 
   stays n none = gone.kept n (λ j b l e h.
       let here : has nodes n ≡ true = ap (has nodes) (sym e) ∙ has_place nodes j l in
       let place : place_in nodes n ≡ j = ap (place_in nodes) (sym e) ∙ place_is nodes j once l in
-      let goes : target_block_of nodes numbers target_blocks n ≡ Some b = target_block_there nodes numbers target_blocks n here ∙ ap (λ i. target_block_at target_blocks (slice_index numbers i)) place ∙ h in
+      let goes : target_block_of nodes numbers target_blocks n ≡ Some b = target_block_there nodes numbers target_blocks n here ∙ ap (λ i. at target_blocks (slice_index numbers i)) place ∙ h in
       let clash : Some b ≡ None = sym goes ∙ none in
       cc)
 

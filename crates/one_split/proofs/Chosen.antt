@@ -4,44 +4,44 @@ use Rattle.std.specs.Prelude.{nat_eq, ◌||◌}
 use Rattle.std.proofs.lemmas.Bool.{cases_lt, both_ways, or_cases, or_left, or_right}
 use Rattle.std.proofs.lemmas.Bool.Decides.{Decides-eqb}
 use Rattle.std.proofs.lemmas.List.{get_or_push, get_or_append_left, get_or_past, length-append}
-use Rattle.graph_spec.specs.Members.{has}
+use Rattle.graph_spec.specs.Members.{has, at}
 use Rattle.graph_spec.proofs.MemberLaws.{has_push}
-use Rattle.one_split.specs.NodeTargetBlocks.{BeginsAt, target_block_at, IsCountedWhole, AreGroupTargetBlocks, StaysIf, GoesIf, TargetBlocksExist}
+use Rattle.one_split.specs.NodeTargetBlocks.{BeginsAt, IsCountedWhole, AreGroupTargetBlocks, StaysIf, GoesIf, TargetBlocksExist}
 
 -- the blocks in which groups stay, of those that were looked at
 pub record AreNoted (keys : List (List ℕ)) (target_blocks : List (Option ℕ)) (stays : List ℕ) : Type 0 where
-  pub into : (j own : ℕ) → j < length target_blocks → target_block_at target_blocks j ≡ None → BeginsAt keys j own → has stays own ≡ true
-  pub from : (own : ℕ) → has stays own ≡ true → (j : ℕ) × (j < length target_blocks) × (target_block_at target_blocks j ≡ None) × BeginsAt keys j own
+  pub into : (j own : ℕ) → j < length target_blocks → at target_blocks j ≡ None → BeginsAt keys j own → has stays own ≡ true
+  pub from : (own : ℕ) → has stays own ≡ true → (j : ℕ) × (j < length target_blocks) × (at target_blocks j ≡ None) × BeginsAt keys j own
 
 pub one_own : (keys : List (List ℕ)) (k a b : ℕ) → BeginsAt keys k a → BeginsAt keys k b → a ≡ b
 one_own keys k a b e f =
     (let x = e.found in let y = f.found in cc)
 
-pub target_block_before : (target_blocks : List (Option ℕ)) (o : Option ℕ) (k : ℕ) → k < length target_blocks → target_block_at (target_blocks ++ o ∷ []) k ≡ target_block_at target_blocks k
+pub target_block_before : (target_blocks : List (Option ℕ)) (o : Option ℕ) (k : ℕ) → k < length target_blocks → at (target_blocks ++ o ∷ []) k ≡ at target_blocks k
 target_block_before target_blocks o k h = get_or_append_left target_blocks (o ∷ []) None k h
 
-pub target_block_last : (target_blocks : List (Option ℕ)) (o : Option ℕ) (k : ℕ) → length target_blocks ≡ k → target_block_at (target_blocks ++ o ∷ []) k ≡ o
+pub target_block_last : (target_blocks : List (Option ℕ)) (o : Option ℕ) (k : ℕ) → length target_blocks ≡ k → at (target_blocks ++ o ∷ []) k ≡ o
 target_block_last target_blocks o k h = get_or_push target_blocks o None k h
 
 -- a target block is one of the earlier groups, or the last one's
-pub target_block_cases : (target_blocks : List (Option ℕ)) (o : Option ℕ) (k b : ℕ) → target_block_at (target_blocks ++ o ∷ []) k ≡ Some b → (target_block_at target_blocks k ≡ Some b) ⊎ ((k ≡ length target_blocks) × (o ≡ Some b))
+pub target_block_cases : (target_blocks : List (Option ℕ)) (o : Option ℕ) (k b : ℕ) → at (target_blocks ++ o ∷ []) k ≡ Some b → (at target_blocks k ≡ Some b) ⊎ ((k ≡ length target_blocks) × (o ≡ Some b))
 target_block_cases target_blocks o k b h = elim (cases_lt k (length target_blocks)) [
   | inl before ↦ inl (sym (target_block_before target_blocks o k before) ∙ h)
   | inr past ↦ elim (cases_lt k (length target_blocks + 1)) [
     | inl here ↦ (let e : length target_blocks ≡ k = omega (arith, past, here) in inr (sym e, sym (target_block_last target_blocks o k e) ∙ h))
     | inr over ↦ absurd (
         let l : length (target_blocks ++ o ∷ []) ≡ length target_blocks + 1 = length-append target_blocks (o ∷ []) in
-        let none : target_block_at (target_blocks ++ o ∷ []) k ≡ None = get_or_past (target_blocks ++ o ∷ []) k None (omega (arith, over, l)) in
+        let none : at (target_blocks ++ o ∷ []) k ≡ None = get_or_past (target_blocks ++ o ∷ []) k None (omega (arith, over, l)) in
         let clash : Some b ≡ None = sym h ∙ none in
         cc)
   ]
 ]
 
 -- an earlier target block stays
-pub target_block_stays : (target_blocks : List (Option ℕ)) (o : Option ℕ) (k b : ℕ) → target_block_at target_blocks k ≡ Some b → target_block_at (target_blocks ++ o ∷ []) k ≡ Some b
+pub target_block_stays : (target_blocks : List (Option ℕ)) (o : Option ℕ) (k b : ℕ) → at target_blocks k ≡ Some b → at (target_blocks ++ o ∷ []) k ≡ Some b
 target_block_stays target_blocks o k b h = elim (cases_lt k (length target_blocks)) [
   | inl before ↦ target_block_before target_blocks o k before ∙ h
-  | inr past ↦ absurd (let none : target_block_at target_blocks k ≡ None = get_or_past target_blocks k None past in let clash : Some b ≡ None = sym h ∙ none in cc)
+  | inr past ↦ absurd (let none : at target_blocks k ≡ None = get_or_past target_blocks k None past in let clash : Some b ≡ None = sym h ∙ none in cc)
 ]
 
 -- of the earlier groups or the last one
@@ -53,7 +53,7 @@ below_cases target_blocks o k h = elim (cases_lt k (length target_blocks)) [
 
 pub going_none : (p : List (Option ℕ)) (counts : List (ℕ × ℕ)) (keys : List (List ℕ)) (target_blocks : List (Option ℕ)) → target_blocks ≡ [] → AreGroupTargetBlocks p counts keys target_blocks
 going_none p counts keys target_blocks e =
-    let none : (k b : ℕ) → target_block_at target_blocks k ≡ Some b → ⊥ = λ k b h. (let f : target_block_at target_blocks k ≡ None = ap (λ gs. target_block_at gs k) e in let clash : Some b ≡ None = sym h ∙ f in cc) in
+    let none : (k b : ℕ) → at target_blocks k ≡ Some b → ⊥ = λ k b h. (let f : at target_blocks k ≡ None = ap (λ gs. at gs k) e in let clash : Some b ≡ None = sym h ∙ f in cc) in
     let zero_len : length target_blocks ≡ 0 = ap length e in
     record {
       whole = λ k own l. absurd (omega (arith, l, zero_len));
@@ -102,7 +102,7 @@ going_stays p counts keys target_blocks own stays stays2 g noted ends (free, add
   ];
 }
   where
-    clash : (j o : ℕ) → j < length target_blocks → target_block_at target_blocks j ≡ None → BeginsAt keys j o → BeginsAt keys (length target_blocks) o → ⊥
+    clash : (j o : ℕ) → j < length target_blocks → at target_blocks j ≡ None → BeginsAt keys j o → BeginsAt keys (length target_blocks) o → ⊥
     clash j o l none e f =
         let same : o ≡ own = one_own keys (length target_blocks) o own f ends in
         both_ways (has stays own) free (noted.into j own l none (subst (BeginsAt keys j) same e))
@@ -181,10 +181,10 @@ going_goes p counts keys target_blocks labels labels2 own b stays stays2 g noted
     long : length (target_blocks ++ Some b ∷ []) ≡ length target_blocks + 1
     long = length-append target_blocks (Some b ∷ [])
 
-    last_none : (k : ℕ) → length target_blocks ≡ k → target_block_at (target_blocks ++ Some b ∷ []) k ≡ None → ⊥
+    last_none : (k : ℕ) → length target_blocks ≡ k → at (target_blocks ++ Some b ∷ []) k ≡ None → ⊥
     last_none k e none = (let f : Some b ≡ None = sym (target_block_last target_blocks (Some b) k e) ∙ none in cc)
 
-    clash : (k c : ℕ) → target_block_at target_blocks k ≡ Some c → Some b ≡ Some c → ⊥
+    clash : (k c : ℕ) → at target_blocks k ≡ Some c → Some b ≡ Some c → ⊥
     clash k c h e =
         let same : c ≡ b = cc in
         let there = blocks.some k b (h ∙ sym e) in

@@ -5,9 +5,9 @@ use Rattle.std.specs.List.{IsDistinct}
 use Rattle.std.proofs.lemmas.Bool.{or_cases, or_left, or_right, false_from_ne_true}
 use Rattle.std.proofs.lemmas.Bool.Decides.{Decides-eqb}
 use Rattle.std.proofs.lemmas.List.{length-append}
-use Rattle.graph_spec.specs.Members.{has}
+use Rattle.graph_spec.specs.Members.{has, at}
 use Rattle.one_split.proofs.OneMore.{and_one}
-use Rattle.one_split.specs.NodeTargetBlocks.{BeginsAt, target_block_at, AreGroupTargetBlocks, StaysIf, GoesIf, TargetBlocksExist, AreBlocks, AreAdded}
+use Rattle.one_split.specs.NodeTargetBlocks.{BeginsAt, AreGroupTargetBlocks, StaysIf, GoesIf, TargetBlocksExist, AreBlocks, AreAdded}
 use Rattle.graph_spec.proofs.MemberLaws.{has_push}
 use Rattle.one_split.proofs.Chosen.{AreNoted, target_block_cases, target_block_last, target_block_stays, going_none, going_stays, going_goes, noted_stays, noted_goes}
 
@@ -22,8 +22,8 @@ append_nil : (xs : List ℕ) → xs ++ [] ≡ xs
 append_nil [] = refl
 append_nil (x ∷ xs) = ap (λ (ys : List ℕ). x ∷ ys) (append_nil xs)
 
-none_at : (target_blocks : List (Option ℕ)) (k b : ℕ) → target_blocks ≡ [] → target_block_at target_blocks k ≡ Some b → ⊥
-none_at target_blocks k b e h = (let f : target_block_at target_blocks k ≡ None = ap (λ gs. target_block_at gs k) e in let clash : Some b ≡ None = sym h ∙ f in cc)
+none_at : (target_blocks : List (Option ℕ)) (k b : ℕ) → target_blocks ≡ [] → at target_blocks k ≡ Some b → ⊥
+none_at target_blocks k b e h = (let f : at target_blocks k ≡ None = ap (λ gs. at gs k) e in let clash : Some b ≡ None = sym h ∙ f in cc)
 
 pub chosen_none : (p : List (Option ℕ)) (counts : List (ℕ × ℕ)) (keys : List (List ℕ)) (labels : ℕ → Option ℕ) (target_blocks : List (Option ℕ)) (stays new_blocks : List ℕ) → target_blocks ≡ [] → stays ≡ []
     → AreBlocks labels new_blocks → IsChosen p counts keys labels target_blocks stays new_blocks new_blocks
@@ -73,10 +73,10 @@ choose_stays p counts keys labels labels2 target_blocks own stays stays2 first n
     alike : length new_blocks2 ≡ length new_blocks
     alike = ap length same
 
-    before : (k b : ℕ) → target_block_at (target_blocks ++ None ∷ []) k ≡ Some b → target_block_at target_blocks k ≡ Some b
+    before : (k b : ℕ) → at (target_blocks ++ None ∷ []) k ≡ Some b → at target_blocks k ≡ Some b
     before k b h = elim (target_block_cases target_blocks None k b h) [ inl e ↦ e | inr (here, goes) ↦ absurd (cc) ]
 
-    still : (k b : ℕ) → target_block_at target_blocks k ≡ Some b → target_block_at (target_blocks ++ None ∷ []) k ≡ Some b
+    still : (k b : ℕ) → at target_blocks k ≡ Some b → at (target_blocks ++ None ∷ []) k ≡ Some b
     still k b h = target_block_stays target_blocks None k b h
 
 choose_goes : (p : List (Option ℕ)) (counts : List (ℕ × ℕ)) (keys : List (List ℕ)) (labels labels2 : ℕ → Option ℕ) (target_blocks : List (Option ℕ)) (own b : ℕ) (stays stays2 first new_blocks new_blocks2 : List ℕ)

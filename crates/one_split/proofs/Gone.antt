@@ -7,7 +7,7 @@ use Rattle.std.proofs.lemmas.Bool.Decides.{eqb_tells, Decides-eqb}
 use Rattle.graph_spec.specs.Members.{at, has}
 use Rattle.graph_spec.specs.Shapes.{Shape}
 use Rattle.bisim_spec.proofs.Bisimilar.{some_of, is_some_at}
-use Rattle.one_split.specs.NodeTargetBlocks.{target_block_at, HaveGone, ListsChildrenOf}
+use Rattle.one_split.specs.NodeTargetBlocks.{HaveGone, ListsChildrenOf}
 use Rattle.one_split.proofs.ListIndexes.{place_in, place_is}
 
 -- what one move makes of the partition
@@ -54,46 +54,46 @@ moved_there : (n b : ℕ) (p p2 : List (Option ℕ)) → OneMoved n (Some b) p p
 moved_there n b p p2 o = o.blocks n ∙ ap (λ t. cond (t && true) (Some b) (at p n)) ((Decides-eqb n n).1 refl)
 
 pub gone_more : (p q p2 : List (Option ℕ)) (nodes numbers : List ℕ) (target_blocks : List (Option ℕ)) (i : ℕ) → IsDistinct nat_eq nodes → i < length nodes
-    → HaveGone p q nodes numbers target_blocks i → OneMoved (slice_index nodes i) (target_block_at target_blocks (slice_index numbers i)) q p2
+    → HaveGone p q nodes numbers target_blocks i → OneMoved (slice_index nodes i) (at target_blocks (slice_index numbers i)) q p2
     → HaveGone p p2 nodes numbers target_blocks (i + 1)
 gone_more p q p2 nodes numbers target_blocks i once l g o = record {
   moved = λ j b h e. elim (cases_lt j i) [
-    | inl before ↦ unmoved (slice_index nodes i) (slice_index nodes j) (target_block_at target_blocks (slice_index numbers i)) q p2 o (apart_places nodes i j once l before) ∙ g.moved j b before e
+    | inl before ↦ unmoved (slice_index nodes i) (slice_index nodes j) (at target_blocks (slice_index numbers i)) q p2 o (apart_places nodes i j once l before) ∙ g.moved j b before e
     | inr past ↦ (
         let here : j ≡ i = omega (arith, h, past) in
-        let goes : target_block_at target_blocks (slice_index numbers i) ≡ Some b = ap (λ k. target_block_at target_blocks (slice_index numbers k)) (sym here) ∙ e in
+        let goes : at target_blocks (slice_index numbers i) ≡ Some b = ap (λ k. at target_blocks (slice_index numbers k)) (sym here) ∙ e in
         ap (λ k. at p2 (slice_index nodes k)) here ∙ moved_there (slice_index nodes i) b q p2 (subst (λ t. OneMoved (slice_index nodes i) t q p2) goes o))
   ];
   kept = λ m none. elim (eqb_tells m (slice_index nodes i)) [
     | inl s ↦ (
-        let stays : target_block_at target_blocks (slice_index numbers i) ≡ None = by (target_block_at target_blocks (slice_index numbers i)) refl (λ b e. none i b (omega arith) (sym s.1) e) in
+        let stays : at target_blocks (slice_index numbers i) ≡ None = by (at target_blocks (slice_index numbers i)) refl (λ b e. none i b (omega arith) (sym s.1) e) in
         unmoved_none (slice_index nodes i) m q p2 (subst (λ t. OneMoved (slice_index nodes i) t q p2) stays o)
         ∙ g.kept m (λ j b h e k. none j b (omega (arith, h)) e k))
-    | inr d ↦ unmoved (slice_index nodes i) m (target_block_at target_blocks (slice_index numbers i)) q p2 o d.1 ∙ g.kept m (λ j b h e k. none j b (omega (arith, h)) e k)
+    | inr d ↦ unmoved (slice_index nodes i) m (at target_blocks (slice_index numbers i)) q p2 o d.1 ∙ g.kept m (λ j b h e k. none j b (omega (arith, h)) e k)
   ];
 }
   where
-    by : (t : Option ℕ) → target_block_at target_blocks (slice_index numbers i) ≡ t → ((b : ℕ) → target_block_at target_blocks (slice_index numbers i) ≡ Some b → ⊥) → target_block_at target_blocks (slice_index numbers i) ≡ None
+    by : (t : Option ℕ) → at target_blocks (slice_index numbers i) ≡ t → ((b : ℕ) → at target_blocks (slice_index numbers i) ≡ Some b → ⊥) → at target_blocks (slice_index numbers i) ≡ None
     by None e h = e
     by (Some b) e h = absurd (h b e)
 
 pub next_more : (s : Shape) (nodes numbers : List ℕ) (target_blocks : List (Option ℕ)) (i : ℕ) (next next2 : List ℕ) → ListsChildrenOf s nodes numbers target_blocks i next
-    → OneListed s (slice_index nodes i) (target_block_at target_blocks (slice_index numbers i)) next next2 → ListsChildrenOf s nodes numbers target_blocks (i + 1) next2
+    → OneListed s (slice_index nodes i) (at target_blocks (slice_index numbers i)) next next2 → ListsChildrenOf s nodes numbers target_blocks (i + 1) next2
 next_more s nodes numbers target_blocks i next next2 a o = record {
   into = λ j b m h e k. o.members m ∙ elim (cases_lt j i) [
-    | inl before ↦ or_left (has next m) (is_some (target_block_at target_blocks (slice_index numbers i)) && s.edge (slice_index nodes i) m) (a.into j b m before e k)
+    | inl before ↦ or_left (has next m) (is_some (at target_blocks (slice_index numbers i)) && s.edge (slice_index nodes i) m) (a.into j b m before e k)
     | inr past ↦ (
         let here : j ≡ i = omega (arith, h, past) in
-        or_right (has next m) (is_some (target_block_at target_blocks (slice_index numbers i)) && s.edge (slice_index nodes i) m)
-        (and_from (is_some (target_block_at target_blocks (slice_index numbers i))) (s.edge (slice_index nodes i) m)
-        (is_some_at (target_block_at target_blocks (slice_index numbers i)) b (ap (λ x. target_block_at target_blocks (slice_index numbers x)) (sym here) ∙ e))
+        or_right (has next m) (is_some (at target_blocks (slice_index numbers i)) && s.edge (slice_index nodes i) m)
+        (and_from (is_some (at target_blocks (slice_index numbers i))) (s.edge (slice_index nodes i) m)
+        (is_some_at (at target_blocks (slice_index numbers i)) b (ap (λ x. at target_blocks (slice_index numbers x)) (sym here) ∙ e))
         (ap (λ x. s.edge (slice_index nodes x) m) (sym here) ∙ k)))
   ];
-  from = λ m h. elim (or_cases (has next m) (is_some (target_block_at target_blocks (slice_index numbers i)) && s.edge (slice_index nodes i) m) (sym (o.members m) ∙ h)) [
+  from = λ m h. elim (or_cases (has next m) (is_some (at target_blocks (slice_index numbers i)) && s.edge (slice_index nodes i) m) (sym (o.members m) ∙ h)) [
     | inl before ↦ (let r = a.from m before in let l = r.2 in (r.0, r.1, omega (arith, l), r.3, r.4))
     | inr here ↦ (
-        let f = and_parts (is_some (target_block_at target_blocks (slice_index numbers i))) (s.edge (slice_index nodes i) m) here in
-        let b = some_of (target_block_at target_blocks (slice_index numbers i)) f.0 in
+        let f = and_parts (is_some (at target_blocks (slice_index numbers i))) (s.edge (slice_index nodes i) m) here in
+        let b = some_of (at target_blocks (slice_index numbers i)) f.0 in
         (i, b.0, omega arith, b.1, f.1))
   ];
 }

@@ -14,7 +14,7 @@ use Rattle.one_spec.specs.SplitRoundSteps.{AreTargetBlocks}
 use Rattle.one_split.specs.Counted.{AreCounted}
 use Rattle.one_split.proofs.Wholes.{whole_counted, part_counted}
 use Rattle.one_split.specs.Numbered.{HasNumber, HaveNumbers}
-use Rattle.one_split.specs.NodeTargetBlocks.{BeginsAt, target_block_at, AreGroupTargetBlocks, HaveGone}
+use Rattle.one_split.specs.NodeTargetBlocks.{BeginsAt, AreGroupTargetBlocks, HaveGone}
 use Rattle.one_split.proofs.ListIndexes.{place_in, place_found, has_place, place_is}
 
 -- the group of a node that is looked at
@@ -23,21 +23,21 @@ group_of nodes numbers n = slice_index numbers (place_in nodes n)
 
 -- where a node goes: where its group goes, if it is looked at
 abbrev pub target_block_of : List ℕ → List ℕ → List (Option ℕ) → ℕ → Option ℕ
-target_block_of nodes numbers target_blocks n = cond (has nodes n) (target_block_at target_blocks (group_of nodes numbers n)) None
+target_block_of nodes numbers target_blocks n = cond (has nodes n) (at target_blocks (group_of nodes numbers n)) None
 
 pub target_block_looked : (nodes numbers : List ℕ) (target_blocks : List (Option ℕ)) (n b : ℕ) → target_block_of nodes numbers target_blocks n ≡ Some b
-    → (has nodes n ≡ true) × (target_block_at target_blocks (group_of nodes numbers n) ≡ Some b)
+    → (has nodes n ≡ true) × (at target_blocks (group_of nodes numbers n) ≡ Some b)
 target_block_looked nodes numbers target_blocks n b h = by (has nodes n) refl
   where
-    by : (t : Bool) → has nodes n ≡ t → (has nodes n ≡ true) × (target_block_at target_blocks (group_of nodes numbers n) ≡ Some b)
-    by true e = (e, sym (ap (λ t. cond t (target_block_at target_blocks (group_of nodes numbers n)) None) e) ∙ h)
-    by false e = absurd (let f : None ≡ Some b = sym (ap (λ t. cond t (target_block_at target_blocks (group_of nodes numbers n)) None) e) ∙ h in cc)
+    by : (t : Bool) → has nodes n ≡ t → (has nodes n ≡ true) × (at target_blocks (group_of nodes numbers n) ≡ Some b)
+    by true e = (e, sym (ap (λ t. cond t (at target_blocks (group_of nodes numbers n)) None) e) ∙ h)
+    by false e = absurd (let f : None ≡ Some b = sym (ap (λ t. cond t (at target_blocks (group_of nodes numbers n)) None) e) ∙ h in cc)
 
-pub target_block_there : (nodes numbers : List ℕ) (target_blocks : List (Option ℕ)) (n : ℕ) → has nodes n ≡ true → target_block_of nodes numbers target_blocks n ≡ target_block_at target_blocks (group_of nodes numbers n)
-target_block_there nodes numbers target_blocks n h = ap (λ t. cond t (target_block_at target_blocks (group_of nodes numbers n)) None) h
+pub target_block_there : (nodes numbers : List ℕ) (target_blocks : List (Option ℕ)) (n : ℕ) → has nodes n ≡ true → target_block_of nodes numbers target_blocks n ≡ at target_blocks (group_of nodes numbers n)
+target_block_there nodes numbers target_blocks n h = ap (λ t. cond t (at target_blocks (group_of nodes numbers n)) None) h
 
 pub target_block_off : (nodes numbers : List ℕ) (target_blocks : List (Option ℕ)) (n : ℕ) → has nodes n ≡ false → target_block_of nodes numbers target_blocks n ≡ None
-target_block_off nodes numbers target_blocks n h = ap (λ t. cond t (target_block_at target_blocks (group_of nodes numbers n)) None) h
+target_block_off nodes numbers target_blocks n h = ap (λ t. cond t (at target_blocks (group_of nodes numbers n)) None) h
 
 module _ (s : Shape) (p : List (Option ℕ)) (keys : List (List ℕ)) (nodes numbers : List ℕ) (count : length numbers ≡ length nodes)
     (once : IsDistinct nat_eq nodes) (numbered : HaveNumbers p s.edge keys nodes numbers) where
@@ -80,7 +80,7 @@ module _ (s : Shape) (p : List (Option ℕ)) (keys : List (List ℕ)) (nodes num
     kept = λ n none. gone.kept n (λ j b l e h.
         let here : has nodes n ≡ true = ap (has nodes) (sym e) ∙ has_place nodes j l in
         let place : place_in nodes n ≡ j = ap (place_in nodes) (sym e) ∙ place_is nodes j once l in
-        let goes : target_block_of nodes numbers target_blocks n ≡ Some b = target_block_there nodes numbers target_blocks n here ∙ ap (λ i. target_block_at target_blocks (slice_index numbers i)) place ∙ h in
+        let goes : target_block_of nodes numbers target_blocks n ≡ Some b = target_block_there nodes numbers target_blocks n here ∙ ap (λ i. at target_blocks (slice_index numbers i)) place ∙ h in
         let clash : Some b ≡ None = sym goes ∙ none in
         cc);
     fresh = λ n m b h e. going.fresh (group_of nodes numbers n) m b (target_block_looked nodes numbers target_blocks n b h).1 e;
@@ -104,7 +104,7 @@ module _ (s : Shape) (p : List (Option ℕ)) (keys : List (List ℕ)) (nodes num
           | inl part ↦ (let m = part_counted p nodes counts e.0 counted part in (m.0, (e.0, e.1, m.1), target_block_off nodes numbers target_blocks m.0 m.2))
           | inr (j, l, none, ends) ↦ (
               let m = node_of j e.0 (omega (arith, l, many)) ends in
-              (m.0, (e.0, e.1, m.3), target_block_there nodes numbers target_blocks m.0 m.1 ∙ ap (target_block_at target_blocks) m.2 ∙ none))
+              (m.0, (e.0, e.1, m.3), target_block_there nodes numbers target_blocks m.0 m.1 ∙ ap (at target_blocks) m.2 ∙ none))
         ];
   }
     where

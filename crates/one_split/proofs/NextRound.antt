@@ -11,7 +11,7 @@ use Rattle.one_spec.proofs.SplitRounds.{round_stable, same_but_moved, same_but_o
 use Rattle.one_spec.proofs.TargetBlocks.{is_moved, target_blocks_within, target_blocks_round, target_blocks_partition, target_blocks_left}
 use Rattle.one_split.specs.Counted.{AreCounted}
 use Rattle.one_split.specs.Numbered.{HaveNumbers}
-use Rattle.one_split.specs.NodeTargetBlocks.{BeginsAt, target_block_at, AreGroupTargetBlocks, HaveGone, ListsChildrenOf, AreAdded}
+use Rattle.one_split.specs.NodeTargetBlocks.{BeginsAt, AreGroupTargetBlocks, HaveGone, ListsChildrenOf, AreAdded}
 use Rattle.one_spec.specs.Splits.{IsClosed, IsSplitInside}
 use Rattle.one_split.proofs.ListIndexes.{place_in, place_found, has_place}
 use Rattle.one_split.proofs.Groups.{group_of, target_block_of, target_block_looked, target_block_there, groups_go, node_of}
@@ -63,7 +63,7 @@ split_step s inside first p p2 keys nodes numbers new_blocks next2 new_blocks2 t
         let below : k < length keys = omega (arith, l, many) in
         let own = owns k below in
         let n = node_of s p keys nodes numbers count once numbered k own.0 below own.1 in
-        (n.0, g.moved n.0 b (target_block_there nodes numbers target_blocks n.0 n.1 ∙ ap (target_block_at target_blocks) n.2 ∙ goes)))
+        (n.0, g.moved n.0 b (target_block_there nodes numbers target_blocks n.0 n.1 ∙ ap (at target_blocks) n.2 ∙ goes)))
   ];
 }
   where

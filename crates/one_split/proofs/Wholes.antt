@@ -1,5 +1,6 @@
 -- As many of some distinct nodes as a block has members are all its members.
 use Rattle.std.proofs.Common.{◌≡◌, ◌≢◌, ℕ, zero, suc, ◌+◌, ◌<◌, ◌≤◌, List, [], ◌∷◌, length, Option, Some, refl, sym, ◌∙◌, ap, arith, inl, inr, true, false, Bool, count_by}
+use Rattle.quotient_draft.specs.MoveTables.{counted}
 use Rattle.std.specs.Prelude.{nat_eq, ◌&&◌, not, IsTrue, IsFalse}
 use Rattle.std.specs.List.{IsDistinct}
 use Rattle.std.proofs.lemmas.Bool.{cases_Bool, cases_lt, and_parts, and_from, both_ways, or_cases, not_from_false, false_from_ne_true}
@@ -13,7 +14,7 @@ use Rattle.bisim_spec.proofs.Bisimilar.{is_some_at}
 use Rattle.bisim_spec.proofs.Moves.{block_get, block_from}
 use Rattle.bisim_spec.proofs.Together.{block_below}
 use Rattle.one_spec.proofs.Sums.{but, sum_without, count_sum, first_has, rest_has, rest_apart}
-use Rattle.one_split.specs.Counted.{count_at, is_in, AreCounted}
+use Rattle.one_split.specs.Counted.{is_in, AreCounted}
 
 -- one number more: what a list counts
 count_one_more : (q : ℕ → Bool) (x : ℕ) (xs : List ℕ) → count_by q (x ∷ xs) ≡ bit_of (q x) + count_by q xs
@@ -166,11 +167,11 @@ one_missing p xs b once apart = elim (cases_Bool (any_below (length p) (is_missi
     ]
 
 -- the same by the table
-pub whole_counted : (p : List (Option ℕ)) (looked : List ℕ) (counts : List (ℕ × ℕ)) (own : ℕ) → AreCounted p looked counts → count_at counts own ≡ count_by (is_this own) p
+pub whole_counted : (p : List (Option ℕ)) (looked : List ℕ) (counts : List (ℕ × ℕ)) (own : ℕ) → AreCounted p looked counts → counted counts own ≡ count_by (is_this own) p
     → (n : ℕ) → at p n ≡ Some own → IsTrue (has looked n)
 whole_counted p looked counts own c same = all_members p looked own c.once (sym (c.each own) ∙ same)
 
-pub part_counted : (p : List (Option ℕ)) (looked : List ℕ) (counts : List (ℕ × ℕ)) (own : ℕ) → AreCounted p looked counts → count_at counts own ≢ count_by (is_this own) p
+pub part_counted : (p : List (Option ℕ)) (looked : List ℕ) (counts : List (ℕ × ℕ)) (own : ℕ) → AreCounted p looked counts → counted counts own ≢ count_by (is_this own) p
     → (n : ℕ) × (at p n ≡ Some own) × IsFalse (has looked n)
 part_counted p looked counts own c apart = one_missing p looked own c.once (λ e. apart (c.each own ∙ e))
 

@@ -1,12 +1,9 @@
 -- How many of the nodes that are examined are in each block.
 use Rattle.std.specs.Prelude.{◌≡◌, ℕ, Bool, false, List, Option, None, Some, nat_eq, not, unwrap_or, count_by}
+use Rattle.quotient_draft.specs.MoveTables.{counted}
 use Rattle.std.specs.List.{IsDistinct}
 use Rattle.std.specs.Map.{lookup}
 use Rattle.graph_spec.specs.Members.{at, is_this}
-
--- how many are counted for a block in the table, and none where it isn't there
-abbrev pub count_at : List (ℕ × ℕ) → ℕ → ℕ
-count_at counts b = unwrap_or (lookup (nat_eq b) counts) 0
 
 -- whether the node is in the block
 abbrev pub is_in : List (Option ℕ) → ℕ → ℕ → Bool
@@ -17,7 +14,7 @@ pub record AreCounted (p : List (Option ℕ)) (looked : List ℕ) (counts : List
   -- no node stands twice
   pub once : IsDistinct nat_eq looked
   -- the count of a block is the number of these nodes in it
-  pub each : (b : ℕ) → count_at counts b ≡ count_by (is_in p b) looked
+  pub each : (b : ℕ) → counted counts b ≡ count_by (is_in p b) looked
 
 -- whether the block, if there is one, has not just one member
 abbrev pub is_shared : List (Option ℕ) → Option ℕ → Bool

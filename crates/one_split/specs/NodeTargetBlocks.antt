@@ -1,9 +1,9 @@
 -- Where the groups of nodes with one key go.
 use Rattle.std.specs.Prelude.{◌≡◌, ◌⊎◌, ℕ, ◌<◌, ◌≤◌, List, Option, Some, None, length, slice_get, slice_index, slice_index_or, IsTrue, IsFalse, IsSome, ◌++◌, ◌∷◌, [], nat_eq, count_by, Bool, ◌&&◌, ◌||◌, is_some, if◌then◌else◌}
+use Rattle.quotient_draft.specs.MoveTables.{counted}
 use Rattle.std.specs.List.{IsDistinct}
 use Rattle.graph_spec.specs.Members.{at, has, is_this}
 use Rattle.graph_spec.specs.Shapes.{Shape, IsParent}
-use Rattle.one_split.specs.Counted.{count_at}
 
 -- the key begins with this number, the block of its nodes
 pub record BeginsAt (keys : List (List ℕ)) (k own : ℕ) : Type 0 where
@@ -12,31 +12,27 @@ pub record BeginsAt (keys : List (List ℕ)) (k own : ℕ) : Type 0 where
   -- the key at place k is this number and then those
   pub found : slice_get keys k ≡ Some (own ∷ around)
 
--- the block to which the group of the k-th key goes, if there is one
-abbrev pub target_block_at : List (Option ℕ) → ℕ → Option ℕ
-target_block_at target_blocks k = slice_index_or target_blocks k None
-
 -- as many nodes are counted for the block as it has members
 abbrev pub IsCountedWhole : List (Option ℕ) → List (ℕ × ℕ) → ℕ → Type 0
-IsCountedWhole p counts own = count_at counts own ≡ count_by (is_this own) p
+IsCountedWhole p counts own = counted counts own ≡ count_by (is_this own) p
 
 -- The groups with numbers below the length of the target blocks: one stays where all members of its block are counted,
 -- and no other group of that block stays; any other goes to a block that had no members, and leaves a group behind, or
 -- a node that isn't counted.
 pub record AreGroupTargetBlocks (p : List (Option ℕ)) (counts : List (ℕ × ℕ)) (keys : List (List ℕ)) (target_blocks : List (Option ℕ)) : Type 0 where
   -- a group stays only if all members of its block are counted
-  pub whole : (k own : ℕ) → k < length target_blocks → target_block_at target_blocks k ≡ None → BeginsAt keys k own → IsCountedWhole p counts own
+  pub whole : (k own : ℕ) → k < length target_blocks → at target_blocks k ≡ None → BeginsAt keys k own → IsCountedWhole p counts own
   -- and only one group of a block stays
-  pub one : (j k own : ℕ) → j < length target_blocks → k < length target_blocks → target_block_at target_blocks j ≡ None
-      → target_block_at target_blocks k ≡ None → BeginsAt keys j own → BeginsAt keys k own → j ≡ k
+  pub one : (j k own : ℕ) → j < length target_blocks → k < length target_blocks → at target_blocks j ≡ None
+      → at target_blocks k ≡ None → BeginsAt keys j own → BeginsAt keys k own → j ≡ k
   -- a group that goes leaves a group of its block behind, or a member that isn't counted
-  pub left : (k own b : ℕ) → target_block_at target_blocks k ≡ Some b → BeginsAt keys k own
+  pub left : (k own b : ℕ) → at target_blocks k ≡ Some b → BeginsAt keys k own
       → (IsCountedWhole p counts own → ⊥)
-      ⊎ ((j : ℕ) × (j < length target_blocks) × (target_block_at target_blocks j ≡ None) × BeginsAt keys j own)
+      ⊎ ((j : ℕ) × (j < length target_blocks) × (at target_blocks j ≡ None) × BeginsAt keys j own)
   -- the block to which it goes had no members
-  pub fresh : (k n b : ℕ) → target_block_at target_blocks k ≡ Some b → at p n ≡ Some b → ⊥
+  pub fresh : (k n b : ℕ) → at target_blocks k ≡ Some b → at p n ≡ Some b → ⊥
   -- no other group goes there
-  pub tells : (j k b : ℕ) → target_block_at target_blocks j ≡ Some b → target_block_at target_blocks k ≡ Some b → j ≡ k
+  pub tells : (j k b : ℕ) → at target_blocks j ≡ Some b → at target_blocks k ≡ Some b → j ≡ k
 
 -- where the group stays, all members of its block are counted, and the block is noted, for the first time
 abbrev pub StaysIf : List (Option ℕ) → List (ℕ × ℕ) → ℕ → List ℕ → List ℕ → Option ℕ → Type 0
@@ -55,24 +51,24 @@ GoesIf p labels labels2 counts own stays stays2 (Some b) =
 -- The nodes before the i-th have gone where their groups go, and the others have stayed.
 pub record HaveGone (p p2 : List (Option ℕ)) (nodes numbers : List ℕ) (target_blocks : List (Option ℕ)) (i : ℕ) : Type 0 where
   -- each of these nodes whose group goes to a block is there
-  pub moved : (j b : ℕ) → j < i → target_block_at target_blocks (slice_index numbers j) ≡ Some b → at p2 (slice_index nodes j) ≡ Some b
+  pub moved : (j b : ℕ) → j < i → at target_blocks (slice_index numbers j) ≡ Some b → at p2 (slice_index nodes j) ≡ Some b
   -- each other node is where it was
-  pub kept : (m : ℕ) → ((j b : ℕ) → j < i → slice_index nodes j ≡ m → target_block_at target_blocks (slice_index numbers j) ≡ Some b → ⊥)
+  pub kept : (m : ℕ) → ((j b : ℕ) → j < i → slice_index nodes j ≡ m → at target_blocks (slice_index numbers j) ≡ Some b → ⊥)
       → at p2 m ≡ at p m
 
 -- the list has the children of those of the nodes before the i-th that have gone
 pub record ListsChildrenOf (s : Shape) (nodes numbers : List ℕ) (target_blocks : List (Option ℕ)) (i : ℕ) (next : List ℕ) : Type 0 where
   -- each child of such a node is on the list
-  pub into : (j b m : ℕ) → j < i → target_block_at target_blocks (slice_index numbers j) ≡ Some b → IsParent s (slice_index nodes j) m
+  pub into : (j b m : ℕ) → j < i → at target_blocks (slice_index numbers j) ≡ Some b → IsParent s (slice_index nodes j) m
       → IsTrue (has next m)
   -- nothing else is
   pub from : (m : ℕ) → IsTrue (has next m)
-      → (j : ℕ) × (b : ℕ) × (j < i) × (target_block_at target_blocks (slice_index numbers j) ≡ Some b) × IsParent s (slice_index nodes j) m
+      → (j : ℕ) × (b : ℕ) × (j < i) × (at target_blocks (slice_index numbers j) ≡ Some b) × IsParent s (slice_index nodes j) m
 
 -- target blocks are blocks of the draft
 pub record TargetBlocksExist (target_blocks : List (Option ℕ)) (labels : ℕ → Option ℕ) : Type 0 where
   -- a block to which a group goes has a label
-  pub some : (k b : ℕ) → target_block_at target_blocks k ≡ Some b → IsSome (labels b)
+  pub some : (k b : ℕ) → at target_blocks k ≡ Some b → IsSome (labels b)
 
 -- distinct blocks
 pub record AreBlocks (labels : ℕ → Option ℕ) (new_blocks : List ℕ) : Type 0 where
@@ -85,20 +81,20 @@ pub record AreBlocks (labels : ℕ → Option ℕ) (new_blocks : List ℕ) : Typ
 pub record AreAdded (target_blocks : List (Option ℕ)) (new_blocks new_blocks2 : List ℕ) : Type 0 where
   -- each of the new list was in the old one, or is a target block
   pub from : (b : ℕ) → IsTrue (has new_blocks2 b)
-      → IsTrue (has new_blocks b) ⊎ ((k : ℕ) × (k < length target_blocks) × (target_block_at target_blocks k ≡ Some b))
+      → IsTrue (has new_blocks b) ⊎ ((k : ℕ) × (k < length target_blocks) × (at target_blocks k ≡ Some b))
   -- if there is a target block, the list is longer than before
-  pub more : (k b : ℕ) → target_block_at target_blocks k ≡ Some b → length new_blocks < length new_blocks2
+  pub more : (k b : ℕ) → at target_blocks k ≡ Some b → length new_blocks < length new_blocks2
   -- it is never shorter
   pub least : length new_blocks ≤ length new_blocks2
   -- what was in it stays
   pub keeps : (b : ℕ) → IsTrue (has new_blocks b) → IsTrue (has new_blocks2 b)
   -- each target block is in it
-  pub holds : (k b : ℕ) → target_block_at target_blocks k ≡ Some b → IsTrue (has new_blocks2 b)
+  pub holds : (k b : ℕ) → at target_blocks k ≡ Some b → IsTrue (has new_blocks2 b)
 
 -- a target block has the label of the block from which its group comes
 pub record TargetBlocksHaveLabels (keys : List (List ℕ)) (target_blocks : List (Option ℕ)) (labels labels2 : ℕ → Option ℕ) : Type 0 where
   -- if the block from which the group comes has a label, the target block has the same
-  pub is : (k own b d : ℕ) → target_block_at target_blocks k ≡ Some b → BeginsAt keys k own → labels own ≡ Some d → labels2 b ≡ Some d
+  pub is : (k own b d : ℕ) → at target_blocks k ≡ Some b → BeginsAt keys k own → labels own ≡ Some d → labels2 b ≡ Some d
 
 -- labels that blocks have stay
 pub record LabelsStay (labels labels2 : ℕ → Option ℕ) : Type 0 where

@@ -1,9 +1,10 @@
 // How many of the nodes that are examined are in each block.
 ghost use Rattle.std.specs.Prelude.{◌≡◌, ◌≢◌, ◌+◌, ◌≤◌, ◌<◌, ◌^◌, [], ℕ, IfOk, OnOk, IsSome, IsTrue, IsFalse, length, nat_eq, count_by, if◌then◌else◌};
+ghost use Rattle.quotient_draft.specs.MoveTables.{counted};
 ghost use Rattle.graph_spec.specs.Members.{has, at, is_this};
 ghost use Rattle.quotient_draft.specs.Drafts.{shown_blocks, shown_labels};
 ghost use Rattle.quotient_draft.specs.Basis.{IsOver};
-ghost use Rattle.one_split.specs.Counted.{count_at, is_in};
+ghost use Rattle.one_split.specs.Counted.{is_in};
 ghost use Rattle.one_split.specs.NodeTargetBlocks.{IsCountedWhole};
 
 use crate::keys::own_block;
@@ -15,7 +16,7 @@ use std::alloc::Global;
 
 // How many are counted for a block.
 fn count_of(counts: &IndexMap<u32, usize>, b: u32) -> usize
-    ensures { result ≡ count_at counts.now.entries b }
+    ensures { result ≡ counted counts.now.entries b }
 {
     match counts.get(&b) {
         Some(count) => *count,
@@ -25,9 +26,9 @@ fn count_of(counts: &IndexMap<u32, usize>, b: u32) -> usize
 
 // Counts one more node for a block, whose count is at most `most` before.
 fn count_one(counts: &mut IndexMap<u32, usize>, b: u32, most: usize) -> Result<(), Memory>
-    requires counted { count_at counts.old.entries b ≤ most }
+    requires counted { counted counts.old.entries b ≤ most }
     requires few { most < 2 ^ 63 }
-    ensures { OnOk result ((x : ℕ) → count_at counts.new.entries x ≡ count_at counts.old.entries x + (if nat_eq x b then 1 else 0)) }
+    ensures { OnOk result ((x : ℕ) → counted counts.new.entries x ≡ counted counts.old.entries x + (if nat_eq x b then 1 else 0)) }
 {
     let count = count_of(counts, b).min(most) + 1;
     counts.insert(b, count)?;
@@ -43,7 +44,7 @@ pub(crate) fn count_by_block(
 ) -> Result<IndexMap<u32, usize>, Memory>
     requires over { IsOver base.now.blocks.block_of base.now.blocks.labels draft.now }
     requires blocks { (n : ℕ) → IsTrue (has nodes.now n) → IsSome (at (shown_blocks base.now draft.now) n) }
-    ensures { IfOk result (λ counts. (b : ℕ) → count_at counts.entries b ≡ count_by (is_in (shown_blocks base.now draft.now) b) nodes.now) }
+    ensures { IfOk result (λ counts. (b : ℕ) → counted counts.entries b ≡ count_by (is_in (shown_blocks base.now draft.now) b) nodes.now) }
 {
     let mut counts = IndexMap::new(alloc);
     for (i, n) in nodes.iter().enumerate() {

@@ -9,7 +9,7 @@ ghost use Rattle.graph_update.specs.PendingChanges.{graph_after};
 ghost use Rattle.quotient_draft.specs.Drafts.{shown_blocks, shown_labels, shown_support};
 ghost use Rattle.quotient_draft.specs.Basis.{IsOver};
 ghost use Rattle.one_split.specs.SplitCosts.{move_cost, round_cost};
-ghost use Rattle.one_split.specs.NodeTargetBlocks.{target_block_at, TargetBlocksExist, GoesTo, ListsChildrenIf};
+ghost use Rattle.one_split.specs.NodeTargetBlocks.{TargetBlocksExist, GoesTo, ListsChildrenIf};
 ghost use Rattle.one_split.specs.RoundStates.{CanRound, IsRound, AreLiveNodes, HaveAllGone, ListsAllChildren};
 ghost use Rattle.one_split.specs.Numbered.{leads_after};
 
@@ -67,7 +67,7 @@ struct Groups {
 // The block to which the group of the i-th node goes.
 fn target_block_of(groups: &Groups, i: usize) -> Option<u32>
     requires { i < length groups.now.numbers.items }
-    ensures { result ≡ target_block_at groups.now.target_blocks.items (slice_index groups.now.numbers.items i) }
+    ensures { result ≡ at groups.now.target_blocks.items (slice_index groups.now.numbers.items i) }
 {
     let target_block = groups.target_blocks.get(groups.numbers[i] as usize)?;
     *target_block

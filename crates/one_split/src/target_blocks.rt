@@ -22,7 +22,7 @@ pub(crate) fn draft_block(base: &Summary, draft: &mut Draft, label: u32) -> Resu
     ensures free { IfOk result (λ b. at (shown_labels base.now draft.old) b ≡ None) }
     ensures stay { OnOk result (shown_blocks base.now draft.new ≡ shown_blocks base.now draft.old) }
     ensures supports { OnOk result ((x y : ℕ) → shown_support base.now draft.new x y ≡ shown_support base.now draft.old x y) }
-    ensures told { IfOk result (λ b. SetsLabel b label (at (shown_labels base.now draft.old)) (at (shown_labels base.now draft.new))) }
+    ensures label { IfOk result (λ b. SetsLabel b label (at (shown_labels base.now draft.old)) (at (shown_labels base.now draft.new))) }
     ensures over { OnOk result (IsOver base.now.blocks.block_of base.now.blocks.labels draft.new) }
 {
     if draft.blocks(base) >= 1 << 31 {

@@ -5,8 +5,8 @@ ghost use Rattle.graph_effects.specs.Effects.{AreEffects};
 ghost use Rattle.quotient_draft.specs.Drafts.{no_changes};
 ghost use Rattle.one_update.specs.OneDrafts.{IsBefore, ShowsChange};
 
+use crate::adding::add_nodes;
 use crate::counting::{lower_edges, raise_edges};
-use crate::joining::join_nodes;
 use crate::leaving::leave_nodes;
 use graph_effects::Effects;
 use graph_update::After;
@@ -27,7 +27,7 @@ pub(crate) fn draft_effects(
     requires effects { AreEffects after.now.before (graph_after after.now) effects.now }
     ensures changed { OnOk result (ShowsChange after.now.before after.now.change base.now draft.new) }
 {
-    join_nodes(base, draft, after, effects)?;
+    add_nodes(base, draft, after, effects)?;
     lower_edges(base, draft, after, effects)?;
     leave_nodes(base, draft, after, effects)?;
     raise_edges(base, draft, after, effects)?;

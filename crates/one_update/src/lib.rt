@@ -5,10 +5,10 @@
 //! two blocks can be. Both keep labels and supports right, and keep nodes outside the change's reach together or apart.
 #![tactic(auto)]
 
+mod adding;
 mod counting;
 mod drafting;
 mod effects;
-mod joining;
 mod leaving;
 mod linking;
 mod phases;

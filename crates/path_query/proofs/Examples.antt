@@ -13,7 +13,7 @@ use Rattle.triples_read.proofs.Basics.{cons-tail}
 use Rattle.path_query.specs.Labels.{IsPlainLabel, SpellsLabel}
 use Rattle.path_query.proofs.LabelBytes.{both}
 use Rattle.path_query.proofs.LabelLaws.{iri_opens}
-use Rattle.path_query.specs.Depths.{depth}
+use Rattle.path_query.specs.Depths.{nesting}
 
 pub plain_a : IsPlainLabel (codes "a")
 plain_a = (refl, (λ e. cc), (λ e. cc), (λ e. cc))
@@ -136,18 +136,18 @@ no_label_and t (inl (l, e)) = l.1 refl
 no_label_and t (inr (iri, h, e)) = true≢false (sym (iri_opens (codes "and") 3 iri h))
 
 -- brackets nest, and those between '<' and '>' don't count, nor those behind a '<' that isn't closed
-depth_none : depth (codes "a//b*") ≡ 0
+depth_none : nesting (codes "a//b*") ≡ 0
 depth_none = refl
 
-depth_two : depth (codes "(a[b])(c)") ≡ 2
+depth_two : nesting (codes "(a[b])(c)") ≡ 2
 depth_two = refl
 
-depth_quoted : depth (codes "(<((>)") ≡ 1
+depth_quoted : nesting (codes "(<((>)") ≡ 1
 depth_quoted = refl
 
-depth_open : depth (codes "<((a") ≡ 0
+depth_open : nesting (codes "<((a") ≡ 0
 depth_open = refl
 
 -- what was closed before counts against what is opened later
-depth_closed : depth (codes "))((") ≡ 0
+depth_closed : nesting (codes "))((") ≡ 0
 depth_closed = refl

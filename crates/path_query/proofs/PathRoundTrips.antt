@@ -9,7 +9,7 @@ use Rattle.path_spec.specs.Tokens.{Token, lab, underscore, slash, slashes, bar, 
 use Rattle.path_spec.specs.Spelling.{EndsSlash, SpellsTokens, canonical}
 use Rattle.path_spec.proofs.CanonicalTexts.{SpellThemselves, NoSlash, canonical_spells}
 use Rattle.path_query.specs.Labels.{IsPlainLabel, SpellsLabel}
-use Rattle.path_query.specs.Parsed.{Spells}
+use Rattle.path_query.specs.Parsed.{SpellsPath}
 use Rattle.path_query.proofs.LabelLaws.{label_first}
 use Rattle.path_query.proofs.TokenPrefixLaws.{label_no_slash}
 
@@ -34,5 +34,5 @@ themselves text (sign g ∷ ts) (b, w, rest, blanks, spelled, ends, more, e) = t
 no_slash : NoSlash SpellsLabel
 no_slash t rest h = let f = label_first t t h in subst (λ x. EndsSlash (x ++ rest)) (sym f.is) (label_no_slash f.byte f.opens)
 
-pub again : (text : List ℕ) (e : Expr) → Spells text e → Spells (canonical e) e
+pub again : (text : List ℕ) (e : Expr) → SpellsPath text e → SpellsPath (canonical e) e
 again text e h = canonical_spells SpellsLabel no_slash e (themselves text (tokens e) h)

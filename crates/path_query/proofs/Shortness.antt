@@ -9,8 +9,8 @@ use Rattle.path_spec.specs.Tokens.{Token, slash, slashes, bar, opening, closing,
 use Rattle.path_expr.specs.WordLengths.{longest, seq_longest, item_longest, atom_longest, together}
 use Rattle.path_expr.specs.Capped.{capped, greatest_length}
 use Rattle.path_query.specs.Lengths.{IsBounded, IsNarrow}
-use Rattle.path_query.specs.Depths.{depth}
-use Rattle.path_query.specs.Parsed.{Spells, is_past}
+use Rattle.path_query.specs.Depths.{nesting}
+use Rattle.path_query.specs.Parsed.{SpellsPath, is_past}
 use Rattle.path_query.proofs.LexerLaws.{tokens_few}
 use Rattle.path_query.proofs.TokenPrefixLaws.{path_language}
 
@@ -79,7 +79,7 @@ within_bytes (Some n) all most h le = omega (arith, h, le)
 
 not_past : (limits : Limits) (text : List ℕ) → is_past limits text ≡ false → length text ≤ limits.expr_bytes
 not_past limits text fits = elim (cases_lt limits.expr_bytes (length text)) [
-  | inl past ↦ absurd (true≢false (sym (ap (λ b. b || nat_lt limits.expr_depth (depth text)) (lt-ltb limits.expr_bytes (length text) past)) ∙ fits))
+  | inl past ↦ absurd (true≢false (sym (ap (λ b. b || nat_lt limits.expr_depth (nesting text)) (lt-ltb limits.expr_bytes (length text) past)) ∙ fits))
   | inr within ↦ within
 ]
 
@@ -93,7 +93,7 @@ uncapped None h = refl
 uncapped (Some n) h = let e : min n greatest_length ≡ n = omega (arith, h) in ap Some e
 
 -- what a text within the limits spells
-pub narrow : (limits : Limits) (text : List ℕ) (e : Expr) → is_past limits text ≡ false → Spells text e → IsNarrow e
+pub narrow : (limits : Limits) (text : List ℕ) (e : Expr) → is_past limits text ≡ false → SpellsPath text e → IsNarrow e
 narrow limits text e fits h =
     let few : length (tokens e) ≤ length text = tokens_few path_language (tokens e) text h in
     let short : length text ≤ 2 ^ 30 = few_bytes limits text fits in

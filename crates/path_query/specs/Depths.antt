@@ -17,10 +17,10 @@ next n b =
     else (if opens b then record n { opened = n.opened + 1 } else (if closes b then record n { closed = n.closed + 1 } else n)))
 
 -- the most brackets that are open at one place from here on
-abbrev pub depth_from : Nesting → List ℕ → ℕ
-depth_from n [] = n.opened - n.closed
-depth_from n (b ∷ bs) = max (n.opened - n.closed) (depth_from (next n b) bs)
+abbrev pub nesting_from : Nesting → List ℕ → ℕ
+nesting_from n [] = n.opened - n.closed
+nesting_from n (b ∷ bs) = max (n.opened - n.closed) (nesting_from (next n b) bs)
 
 -- the most brackets that are open at one place of the text
-abbrev pub depth : List ℕ → ℕ
-depth text = depth_from (record { opened = 0; closed = 0; quoted = false }) text
+abbrev pub nesting : List ℕ → ℕ
+nesting text = nesting_from (record { opened = 0; closed = 0; quoted = false }) text

@@ -1,6 +1,6 @@
 // How deep brackets nest.
 ghost use Rattle.std.specs.Prelude.{◌≡◌, ◌≤◌, ◌<◌, ◌+◌, ◌^◌, max, length};
-ghost use Rattle.path_query.specs.Depths.{depth, opens, closes};
+ghost use Rattle.path_query.specs.Depths.{nesting, opens, closes};
 
 /// How many brackets were opened and closed, and whether the place stands between `<` and `>`.
 #[derive(Clone, Copy)]
@@ -48,7 +48,7 @@ impl Nesting {
 }
 /// The most brackets that are open at one place of the text. Linear in the text.
 pub(crate) fn depth_of(text: &[u8]) -> usize
-    ensures { result ≡ depth text.now }
+    ensures { result ≡ nesting text.now }
 {
     let mut nesting = Nesting {
         opened: 0,

@@ -5,7 +5,7 @@ ghost use Rattle.path_spec.specs.Matches.{Matches};
 ghost use Rattle.path_spec.specs.Longest.{IsLongest};
 ghost use Rattle.path_spec.specs.Spelling.{canonical};
 ghost use Rattle.path_query.specs.Lengths.{IsBounded};
-ghost use Rattle.path_query.specs.Parsed.{Spells, is_past};
+ghost use Rattle.path_query.specs.Parsed.{SpellsPath, is_past};
 
 use crate::parsing::{is_past, read};
 use crate::read_error::ReadError;
@@ -42,7 +42,7 @@ impl Model for PathExpr {
     ghost use Rattle.path_spec.specs.Trees.{Expr as Tree};
     ghost use Rattle.path_spec.specs.Spelling.{canonical};
     ghost use Rattle.path_expr.specs.TreeCodes.{coded_tree};
-    ghost use Rattle.path_query.specs.Parsed.{Spells};
+    ghost use Rattle.path_query.specs.Parsed.{SpellsPath};
     ghost use Rattle.path_query.specs.Lengths.{IsNarrow};
 
     ghost Value = { Tree };
@@ -51,7 +51,7 @@ impl Model for PathExpr {
 
     ghost view = { λ e. e.tree };
 
-    ghost invariant = { λ e. Spells (canonical e.tree) e.tree × IsNarrow e.tree };
+    ghost invariant = { λ e. SpellsPath (canonical e.tree) e.tree × IsNarrow e.tree };
 }
 
 impl PathExpr {
@@ -60,11 +60,11 @@ impl PathExpr {
     /// nest deeper than `expr_depth`, else `Syntax` only where it spells none, and `Memory` where memory runs out. O(n)
     /// for n bytes; it takes O(n) memory.
     pub fn parse(alloc: Global, text: &[u8], limits: &Limits) -> Result<PathExpr, ExprError>
-        ensures ok { IfOk result (λ e. Spells text.now e) }
-        ensures only { IfOk result (λ e. (other : tree.Expr) → Spells text.now other → other ≡ e) }
+        ensures ok { IfOk result (λ e. SpellsPath text.now e) }
+        ensures only { IfOk result (λ e. (other : tree.Expr) → SpellsPath text.now other → other ≡ e) }
         ensures limit { (result ≡ Err ExprError.Limit) ↔ IsTrue (is_past limits.now text.now) }
-        ensures syntax { IsErrOf result ExprError.Syntax → (e : tree.Expr) → Spells text.now e → ⊥ }
-        ensures once { (a b : tree.Expr) → Spells text.now a → Spells text.now b → a ≡ b }
+        ensures syntax { IsErrOf result ExprError.Syntax → (e : tree.Expr) → SpellsPath text.now e → ⊥ }
+        ensures once { (a b : tree.Expr) → SpellsPath text.now a → SpellsPath text.now b → a ≡ b }
     {
         if is_past(limits, text) {
             return Err(ExprError::Limit);
@@ -81,7 +81,7 @@ impl PathExpr {
     /// bytes; it takes that text.
     pub fn write(&self, alloc: Global) -> Result<Text, Memory>
         ensures canonical { IfOk result (λ t. t ≡ canonical self.now) }
-        ensures again { IfOk result (λ t. Spells t self.now) }
+        ensures again { IfOk result (λ t. SpellsPath t self.now) }
     {
         let mut out = String::new(alloc);
         write_expr(&mut out, &self.tree)?;

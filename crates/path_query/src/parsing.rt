@@ -1,7 +1,7 @@
 // Trees from texts.
 ghost use Rattle.std.specs.Prelude.{◌≡◌, IfOk, IsErrOf};
 ghost use Rattle.path_spec.specs.Trees as tree;
-ghost use Rattle.path_query.specs.Parsed.{Spells, is_past};
+ghost use Rattle.path_query.specs.Parsed.{SpellsPath, is_past};
 
 use crate::depth::depth_of;
 use crate::grammar::read_tokens;
@@ -22,8 +22,8 @@ pub fn is_past(limits: &Limits, text: &[u8]) -> bool
 
 /// The one tree that the text spells, whatever its size.
 pub(crate) fn read(alloc: Global, text: &[u8]) -> Result<Expr, ReadError>
-    ensures ok { IfOk result (λ e. Spells text.now e) }
-    ensures syntax { IsErrOf result ReadError.Syntax → (f : tree.Expr) → Spells text.now f → ⊥ }
+    ensures ok { IfOk result (λ e. SpellsPath text.now e) }
+    ensures syntax { IsErrOf result ReadError.Syntax → (f : tree.Expr) → SpellsPath text.now f → ⊥ }
 {
     let tokens = lex::<Token>(alloc, text)?;
     read_tokens(alloc, &tokens)

@@ -5,7 +5,7 @@ use Rattle.change_spec.specs.Steps.{Step}
 use Rattle.triples_read.specs.declared.term.Triple.{Triple}
 use Rattle.triples_read.specs.declared.line.LineError.{LineError}
 use Rattle.triples_read.specs.declared.line.LineError.TheVariants as line_error
-use Rattle.triples_read.specs.Lines.{Spells}
+use Rattle.triples_read.specs.Lines.{SpellsTriple}
 use Rattle.path_query.specs.Labels.{SpellsLabel}
 use Rattle.px_base.specs.declared.allocation.Memory.{Memory}
 use Rattle.pathindex_session.specs.Sessions.{SessionOf}
@@ -18,13 +18,13 @@ pub label_read : (step : List ℕ → Step) (text label : List ℕ) (s t : Sessi
 label_read step text label s t g h reply answer is found steps = read label (subst (λ a. IfOk a (λ r. IfSome r (λ l. SpellsLabel text l))) is found) steps
 
 pub triple_read : (Goes : Triple → SessionOf → SessionOf → Reply → Type 0) (text : List ℕ) (x : Triple) (s t : SessionOf) (reply : Reply) (answer : Result (Option Triple) LineError) → answer ≡ Ok (Some x)
-    → IfOk answer (λ r. IfSome r (λ y. Spells text y)) → Goes x s t reply → ReadsTriple Goes text s t reply
-triple_read Goes text x s t reply answer is found goes = read x (subst (λ a. IfOk a (λ r. IfSome r (λ y. Spells text y))) is found) goes
+    → IfOk answer (λ r. IfSome r (λ y. SpellsTriple text y)) → Goes x s t reply → ReadsTriple Goes text s t reply
+triple_read Goes text x s t reply answer is found goes = read x (subst (λ a. IfOk a (λ r. IfSome r (λ y. SpellsTriple text y))) is found) goes
 
 none_spelled : (a : Result (Option Triple) LineError) → a ≡ Ok None → (x : Triple) → (a ≡ Ok (Some x)) ⊎ IsErrOf a line_error.Memory → ⊥
 none_spelled a none x (inl same) = cc
 none_spelled a none x (inr memory) = (let e : a ≡ Err line_error.Memory = memory in cc)
 
 pub no_triple : (Goes : Triple → SessionOf → SessionOf → Reply → Type 0) (text : List ℕ) (s : SessionOf) (reply : Reply) (answer : Result (Option Triple) LineError) → answer ≡ Ok None
-    → ((x : Triple) → Spells text x → (answer ≡ Ok (Some x)) ⊎ IsErrOf answer line_error.Memory) → reply ≡ misspelled → ReadsTriple Goes text s s reply
+    → ((x : Triple) → SpellsTriple text x → (answer ≡ Ok (Some x)) ⊎ IsErrOf answer line_error.Memory) → reply ≡ misspelled → ReadsTriple Goes text s s reply
 no_triple Goes text s reply answer is spelled said = wrong (λ x spells. none_spelled answer is x (spelled x spells)) refl said

@@ -7,7 +7,7 @@ use Rattle.pathindex_session.specs.declared.opening.Indexes.{Indexes}
 use Rattle.pathindex_session.specs.declared.errors.OpenError.{OpenError}
 use Rattle.pathindex_session.specs.Sessions.{SessionOf, graph_of, names_of}
 use Rattle.pathindex_session.specs.Openings.{OpensText, TellsLine}
-use Rattle.pathindex_session.specs.TextAnswers.{SpellsPath, SpellsBranch}
+use Rattle.pathindex_session.specs.TextAnswers.{SpellsPathQuery, SpellsBranchQuery}
 use Rattle.pathindex_calls.specs.declared.held.Held.{Held}
 use Rattle.pathindex_calls.specs.declared.replies.Reply.{Reply}
 use Rattle.pathindex_calls.specs.declared.requests.Command.{Command}
@@ -31,8 +31,8 @@ ObeysCall End text s g t h reply = Ends s g t h reply
 ObeysCall Cancel text s g t h reply = (t ≡ s) × Cancels g h reply
 ObeysCall Insert text s g t h reply = (h ≡ g) × ReadsTriple (λ x. Inserts x) text s t reply
 ObeysCall Delete text s g t h reply = (h ≡ g) × ReadsTriple (λ x. Deletes x) text s t reply
-ObeysCall (Path via) text s g t h reply = (h ≡ g) × Asks (SpellsPath text) text via s t reply
-ObeysCall (Branch via) text s g t h reply = (h ≡ g) × Asks (SpellsBranch text) text via s t reply
+ObeysCall (Path via) text s g t h reply = (h ≡ g) × Asks (SpellsPathQuery text) text via s t reply
+ObeysCall (Branch via) text s g t h reply = (h ≡ g) × Asks (SpellsBranchQuery text) text via s t reply
 ObeysCall (Why u) text s g t h reply = (h ≡ g) × Explains text u s t reply
 ObeysCall (Extents via) text s g t h reply = (h ≡ g) × Lists via s t reply
 ObeysCall Sizes text s g t h reply = (h ≡ g) × Measures s t reply

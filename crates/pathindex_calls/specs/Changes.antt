@@ -3,7 +3,7 @@ use Rattle.std.specs.Prelude.{ℕ, ◌≡◌, ◌≢◌, ◌↔◌, ◌⊎◌, �
 use Rattle.graph_spec.specs.declared.refusal.Refusal.{Refusal}
 use Rattle.change_spec.specs.Steps.{Step, is_new}
 use Rattle.triples_read.specs.declared.term.Triple.{Triple}
-use Rattle.triples_read.specs.Lines.{Spells}
+use Rattle.triples_read.specs.Lines.{SpellsTriple}
 use Rattle.path_query.specs.Labels.{SpellsLabel}
 use Rattle.triple_names.specs.Names.{AreSameNames}
 use Rattle.triple_names.specs.TripleChanges.{insert_steps, delete_change}
@@ -77,7 +77,7 @@ pub data Reads {X : Type 0} (spells goes : X → Type 0) (stays : Type 0) (reply
 
 -- the text spells a triple, as a line of N-Triples does, which was inserted or deleted
 abbrev pub ReadsTriple : (Triple → SessionOf → SessionOf → Reply → Type 0) → List ℕ → SessionOf → SessionOf → Reply → Type 0
-ReadsTriple Goes text s t reply = Reads (λ x. Spells text x) (λ x. Goes x s t reply) (t ≡ s) reply
+ReadsTriple Goes text s t reply = Reads (λ x. SpellsTriple text x) (λ x. Goes x s t reply) (t ≡ s) reply
 
 -- A group of steps, where one is begun, got one more, unless memory ran out.
 abbrev pub Adds : Step → List Step → List Step → Reply → Type 0

@@ -1,5 +1,5 @@
 // Questions to a session.
-ghost use Rattle.pathindex_session.specs.TextAnswers.{SpellsPath, SpellsBranch};
+ghost use Rattle.pathindex_session.specs.TextAnswers.{SpellsPathQuery, SpellsBranchQuery};
 ghost use Rattle.pathindex_calls.specs.Questions.{Asks, Explains, Checks, Lists, Measures, Saves, Forgets};
 
 use crate::replies::{Reply, of_answer, of_check, of_forget, of_list, of_sizes, of_why};
@@ -10,14 +10,14 @@ use std::alloc::Global;
 
 /// Asks a path expression.
 pub(crate) fn path(alloc: Global, session: &mut Session, via: Via, text: &[u8]) -> Reply
-    ensures { Asks (SpellsPath text.now) text.now via session.old session.new result }
+    ensures { Asks (SpellsPathQuery text.now) text.now via session.old session.new result }
 {
     of_answer(session.path(alloc, via, text), session.nodes())
 }
 
 /// Asks a branching query.
 pub(crate) fn branch(alloc: Global, session: &mut Session, via: Via, text: &[u8]) -> Reply
-    ensures { Asks (SpellsBranch text.now) text.now via session.old session.new result }
+    ensures { Asks (SpellsBranchQuery text.now) text.now via session.old session.new result }
 {
     of_answer(session.branch(alloc, via, text), session.nodes())
 }

@@ -7,7 +7,7 @@ use Rattle.px_base.specs.Files.{File, content_of}
 use Rattle.graph_spec.specs.ProgramLimits.{program_limits}
 use Rattle.command_line.specs.Forms.{Form, Settings, runs, makes, checks, neither}
 use Rattle.index_api.specs.declared.kinds.Via.{Via}
-use Rattle.index_file.specs.Reads.{Outcome, Reads, holds}
+use Rattle.index_file.specs.Reads.{ReadOutcome, Reads, holds}
 use Rattle.index_file.specs.ReadSteps.{ReadsObservable, LacksFile}
 use Rattle.index_file.specs.SavedFiles.{SavedFile}
 use Rattle.pathindex_run.specs.CheckedFiles.{ChecksNamed, ChecksFileText, EndsCheck, ShowsFit, ShowsOutcome}
@@ -30,13 +30,13 @@ kept_text : (text old new : Option (List ℕ)) (status : ℕ) → (status ≡ 7)
 kept_text None old new status k = (k.1, inr k.0)
 kept_text (Some t) old new status k = inr (k.1, inr k.0)
 
-shown_text : (text : Option (List ℕ)) (t : List ℕ) (o : Outcome) (old new : Option (List ℕ)) (status : ℕ) → text ≡ Some t → Reads program_limits t o
+shown_text : (text : Option (List ℕ)) (t : List ℕ) (o : ReadOutcome) (old new : Option (List ℕ)) (status : ℕ) → text ≡ Some t → Reads program_limits t o
     → ShowsOutcome o old new status → ChecksFileText text old new status
 shown_text None t o old new status e r s = cc
 shown_text (Some u) t o old new status e r s = (let same : u ≡ t = cc in inl (o, subst (λ x. Reads program_limits x o) (sym same) r, s))
 
 -- the file was read, and what that gives was written, or memory ran out
-pub check_shown : (files : Option (List File)) (name : List ℕ) (o : Outcome) (old new : Option (List ℕ)) (status : ℕ)
+pub check_shown : (files : Option (List File)) (name : List ℕ) (o : ReadOutcome) (old new : Option (List ℕ)) (status : ℕ)
     → ReadsObservable program_limits files name o → ShowsOutcome o old new status ⊎ ((status ≡ 7) × Keeps old new) → ChecksNamed files name old new status
 check_shown None name o old new status r s = tt
 check_shown (Some fs) name o old new status r (inl s) = shown_text (content_of fs name) r.0 o old new status r.1 r.2 s
@@ -177,8 +177,8 @@ views_whole form files h h2 k k2 status (inr (inr (inl e))) c w f g = absurd (no
 views_whole form files h h2 k k2 status (inr (inr (inr e))) c w f g = inr (inr e)
 
 -- a line of the file was refused, so that it isn't spelled within limits
-pub refused_whole : (files : Option (List File)) (name : List ℕ) (o : Outcome) (h h2 k k2 status : ℕ) → ReadsObservable program_limits files name o
-    → ((s : SavedFile) → o ≡ holds s → ⊥) → ((text : List ℕ) (a b : Outcome) → Reads program_limits text a → Reads program_limits text b → a ≡ b)
+pub refused_whole : (files : Option (List File)) (name : List ℕ) (o : ReadOutcome) (h h2 k k2 status : ℕ) → ReadsObservable program_limits files name o
+    → ((s : SavedFile) → o ≡ holds s → ⊥) → ((text : List ℕ) (a b : ReadOutcome) → Reads program_limits text a → Reads program_limits text b → a ≡ b)
     → ChecksWhole (checks name) files h h2 k k2 status
 refused_whole None name o h h2 k k2 status r other once w f g = absurd w
 refused_whole (Some fs) name o h h2 k k2 status r other once w f g =

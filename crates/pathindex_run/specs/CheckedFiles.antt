@@ -4,7 +4,7 @@ use Rattle.graph_spec.specs.ProgramLimits.{program_limits}
 use Rattle.px_base.specs.Files.{File, content_of}
 use Rattle.index_api.specs.declared.kinds.Via.{Via}
 use Rattle.index_file.specs.FittingViews.{FitsView}
-use Rattle.index_file.specs.Reads.{Outcome, Reads, holds, syntax, limit}
+use Rattle.index_file.specs.Reads.{ReadOutcome, Reads, holds, bad_syntax, past_limit}
 use Rattle.index_file.specs.SavedFiles.{SavedFile}
 use Rattle.index_file.specs.SavedGraphs.{via_at}
 use Rattle.pathindex_run.specs.ShownLines.{ShowsLine, StopsAtOnce}
@@ -36,16 +36,16 @@ ShowsFit None old new status = ShowsLine fits_line 0 old new status
 ShowsFit (Some via) old new status = ShowsLine (differs_line via) 8 old new status
 
 -- what is written, by what the text of the file is read to
-abbrev pub ShowsOutcome : Outcome → Option (List ℕ) → Option (List ℕ) → ℕ → Type 0
+abbrev pub ShowsOutcome : ReadOutcome → Option (List ℕ) → Option (List ℕ) → ℕ → Type 0
 ShowsOutcome (holds file) old new status = (misfit : Option Via) × FitsBut file misfit × ShowsFit misfit old new status
-ShowsOutcome (syntax l) old new status = ShowsLine (index_line l (codes "syntax")) 3 old new status
-ShowsOutcome (limit l) old new status = ShowsLine (index_line l (codes "limit")) 3 old new status
+ShowsOutcome (bad_syntax l) old new status = ShowsLine (index_line l (codes "syntax")) 3 old new status
+ShowsOutcome (past_limit l) old new status = ShowsLine (index_line l (codes "limit")) 3 old new status
 
 -- `text` is what the file holds, if it is there. Nothing is written if it isn't, if it isn't read to its end, or if memory runs out.
 abbrev pub ChecksFileText : Option (List ℕ) → Option (List ℕ) → Option (List ℕ) → ℕ → Type 0
 ChecksFileText None old new status = StopsAtOnce old new status
 ChecksFileText (Some text) old new status =
-    ((o : Outcome) × Reads program_limits text o × ShowsOutcome o old new status) ⊎ StopsAtOnce old new status
+    ((o : ReadOutcome) × Reads program_limits text o × ShowsOutcome o old new status) ⊎ StopsAtOnce old new status
 
 -- the file of that name is checked, as far as the files are observable
 abbrev pub ChecksNamed : Option (List File) → List ℕ → Option (List ℕ) → Option (List ℕ) → ℕ → Type 0

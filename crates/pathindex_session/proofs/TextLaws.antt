@@ -6,7 +6,7 @@ use Rattle.graph_spec.specs.Shapes.{shape_of}
 use Rattle.graph_spec.specs.declared.refusal.Refusal.{Refusal}
 use Rattle.graph_spec.specs.declared.refusal.Refusal.TheVariants.{Limit, NoIndex, NoNode, NoEdge}
 use Rattle.path_spec.specs.Trees.{Expr}
-use Rattle.path_query.specs.Parsed.{Spells}
+use Rattle.path_query.specs.Parsed.{SpellsPath}
 use Rattle.path_query.specs.declared.expr.ExprError.{ExprError}
 use Rattle.path_query.specs.declared.expr.ExprError.TheVariants as text_error
 use Rattle.branch_query.specs.Queries.{Query}
@@ -98,7 +98,7 @@ ask_failed s t via q asked ask_error.Memory is missing = record {
 }
 
 pub explain_failed : {X : Type 0} (text : List ℕ) (past : Bool) (s t : SessionOf) (v : ℕ) (parsed : Result X ExprError) (error : ExprError) → parsed ≡ Err error → ((parsed ≡ Err text_error.Limit) ↔ IsTrue past)
-    → (IsErrOf parsed text_error.Syntax → (e : Expr) → Spells text e → ⊥) → ExplainsText text past s t v (Err (of_text error))
+    → (IsErrOf parsed text_error.Syntax → (e : Expr) → SpellsPath text e → ⊥) → ExplainsText text past s t v (Err (of_text error))
 explain_failed text past s t v parsed text_error.Limit is limit syntax = record {
   found = tt;
   limit = (λ _. limit.0 is, λ _. refl);
@@ -136,7 +136,7 @@ not_explained text past s t v parsed x is limit off = record {
 }
 
 pub explained : {X : Type 0} (text : List ℕ) (past : Bool) (s t : SessionOf) (v : ℕ) (parsed : Result X ExprError) (x : X) (e : Expr) (result : Result Bool QueryError) → parsed ≡ Ok x → ((parsed ≡ Err text_error.Limit) ↔ IsTrue past)
-    → Spells text e → IsTrue (is_live (graph_of s) v) → IfOk result (λ b. IsExplained b (graph_of s) e v t.walk) → ((error : QueryError) → result ≡ Err error → error ≡ Memory)
+    → SpellsPath text e → IsTrue (is_live (graph_of s) v) → IfOk result (λ b. IsExplained b (graph_of s) e v t.walk) → ((error : QueryError) → result ≡ Err error → error ≡ Memory)
     → ExplainsText text past s t v result
 explained text past s t v parsed x e (Ok b) is limit spells live found only = record {
   found = (e, spells, found);
@@ -156,7 +156,7 @@ explained text past s t v parsed x e (Err error) is limit spells live found only
 }
 
 pub check_failed : {X : Type 0} (text : List ℕ) (past : Bool) (s : SessionOf) (v : ℕ) (walk : List ℕ) (parsed : Result X ExprError) (error : ExprError) → parsed ≡ Err error → ((parsed ≡ Err text_error.Limit) ↔ IsTrue past)
-    → (IsErrOf parsed text_error.Syntax → (e : Expr) → Spells text e → ⊥) → ChecksText text past s v walk (Err (of_text error))
+    → (IsErrOf parsed text_error.Syntax → (e : Expr) → SpellsPath text e → ⊥) → ChecksText text past s v walk (Err (of_text error))
 check_failed text past s v walk parsed text_error.Limit is limit syntax = record {
   checked = tt;
   limit = (λ _. limit.0 is, λ _. refl);
@@ -177,7 +177,7 @@ check_failed text past s v walk parsed text_error.Memory is limit syntax = recor
 }
 
 pub checked : {X : Type 0} (text : List ℕ) (past : Bool) (s : SessionOf) (v : ℕ) (walk : List ℕ) (parsed : Result X ExprError) (x : X) (e : Expr) (b : Bool) → parsed ≡ Ok x → ((parsed ≡ Err text_error.Limit) ↔ IsTrue past)
-    → Spells text e → (IsTrue b ↔ Shows (shape_of (graph_of s)) e v walk) → ChecksText text past s v walk (Ok b)
+    → SpellsPath text e → (IsTrue b ↔ Shows (shape_of (graph_of s)) e v walk) → ChecksText text past s v walk (Ok b)
 checked text past s v walk parsed x e b is limit spells shows = record {
   checked = (e, spells, shows);
   limit = (λ h. absurd (cc), λ p. absurd (let h = limit.1 p in cc));

@@ -6,7 +6,7 @@ use Rattle.graph_spec.specs.Graphs.{Graph, is_live}
 use Rattle.graph_spec.specs.Shapes.{shape_of}
 use Rattle.path_spec.specs.PathAnswers.{IsAnswer}
 use Rattle.path_spec.specs.Trees.{Expr}
-use Rattle.path_query.specs.Parsed.{Spells}
+use Rattle.path_query.specs.Parsed.{SpellsPath}
 use Rattle.branch_spec.specs.Trees as branch_trees
 use Rattle.branch_text.specs.Parsed as branch_texts
 use Rattle.branch_query.specs.Queries.{Query, path, branch}
@@ -20,12 +20,12 @@ use Rattle.pathindex_session.specs.declared.errors.QueryError.TheVariants.{Refus
 use Rattle.pathindex_session.specs.Sessions.{SessionOf, engine_in, graph_of}
 
 -- the text spells a path expression, as a query
-abbrev pub SpellsPath : List ℕ → Query → Type 0
-SpellsPath text q = (e : Expr) × Spells text e × (q ≡ path e)
+abbrev pub SpellsPathQuery : List ℕ → Query → Type 0
+SpellsPathQuery text q = (e : Expr) × SpellsPath text e × (q ≡ path e)
 
 -- the text spells a branching query
-abbrev pub SpellsBranch : List ℕ → Query → Type 0
-SpellsBranch text q = (b : branch_trees.Branch) × branch_texts.Spells text b × (q ≡ branch b)
+abbrev pub SpellsBranchQuery : List ℕ → Query → Type 0
+SpellsBranchQuery text q = (b : branch_trees.Branch) × branch_texts.SpellsBranch text b × (q ≡ branch b)
 
 -- What a session answers to a query.
 pub record IsAskedHow (s t : SessionOf) (via : Via) (q : Query) (result : Result How QueryError) : Type 0 where
@@ -59,7 +59,7 @@ IsExplained false g e v walk = IsAnswer (shape_of g) e v → ⊥
 -- What a session answers to the question why a node answers the expression that a text spells.
 pub record ExplainsText (text : List ℕ) (is_past : Bool) (s t : SessionOf) (v : ℕ) (result : Result Bool QueryError) : Type 0 where
   -- the least walk that shows it is found, or there is none
-  pub found : IfOk result (λ b. (e : Expr) × Spells text e × IsExplained b (graph_of s) e v t.walk)
+  pub found : IfOk result (λ b. (e : Expr) × SpellsPath text e × IsExplained b (graph_of s) e v t.walk)
   -- the text is refused exactly if it is past a limit
   pub limit : (result ≡ Err (Refused Limit)) ↔ IsTrue is_past
   -- else it is refused only where the node isn't live
@@ -69,15 +69,15 @@ pub record ExplainsText (text : List ℕ) (is_past : Bool) (s t : SessionOf) (v 
   -- and for no other reason
   pub only : (r : Refusal) → result ≡ Err (Refused r) → (r ≡ Limit) ⊎ (r ≡ NoNode)
   -- the text spells no expression
-  pub syntax : result ≡ Err Syntax → (e : Expr) → Spells text e → ⊥
+  pub syntax : result ≡ Err Syntax → (e : Expr) → SpellsPath text e → ⊥
 
 -- What a session answers to the question whether a list of nodes shows why a node answers the expression that a text spells.
 pub record ChecksText (text : List ℕ) (is_past : Bool) (s : SessionOf) (v : ℕ) (walk : List ℕ) (result : Result Bool QueryError) : Type 0 where
   -- it answers whether the list shows it
-  pub checked : IfOk result (λ b. (e : Expr) × Spells text e × (IsTrue b ↔ Shows (shape_of (graph_of s)) e v walk))
+  pub checked : IfOk result (λ b. (e : Expr) × SpellsPath text e × (IsTrue b ↔ Shows (shape_of (graph_of s)) e v walk))
   -- the text is refused exactly if it is past a limit
   pub limit : (result ≡ Err (Refused Limit)) ↔ IsTrue is_past
   -- it is refused for no other reason
   pub only : (r : Refusal) → result ≡ Err (Refused r) → r ≡ Limit
   -- the text spells no expression
-  pub syntax : result ≡ Err Syntax → (e : Expr) → Spells text e → ⊥
+  pub syntax : result ≡ Err Syntax → (e : Expr) → SpellsPath text e → ⊥

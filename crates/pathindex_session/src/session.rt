@@ -17,7 +17,7 @@ ghost use Rattle.pathindex_core.specs.EngineTerms.{engine_kinds, engine_outcome}
 ghost use Rattle.pathindex_session.specs.Sessions.{engine_in, graph_of, names_of, KeepsFound};
 ghost use Rattle.pathindex_session.specs.Openings.{OpensText, TellsLine};
 ghost use Rattle.pathindex_session.specs.Edits.{IsEdited, names_with};
-ghost use Rattle.pathindex_session.specs.TextAnswers.{IsAskedHow, IsExplained, SpellsPath, SpellsBranch, AnswersText, ExplainsText, ChecksText};
+ghost use Rattle.pathindex_session.specs.TextAnswers.{IsAskedHow, IsExplained, SpellsPathQuery, SpellsBranchQuery, AnswersText, ExplainsText, ChecksText};
 ghost use Rattle.any_index.specs.AnyMeanings.{meaning_of};
 
 use crate::asking::{ask, explain, list, measure, save};
@@ -179,7 +179,7 @@ impl Session {
     /// Asks the path expression that the text spells of the graph itself or of an index, as `Engine::path` does and at its
     /// cost, and says how the answers were found. They are the nodes found last from then on.
     pub fn path(&mut self, alloc: Global, via: Via, text: &[u8]) -> Result<How, QueryError>
-        ensures answers { AnswersText (SpellsPath text.now) (is_past program_limits text.now) self.old self.new via result }
+        ensures answers { AnswersText (SpellsPathQuery text.now) (is_past program_limits text.now) self.old self.new via result }
         ensures keeps { KeepsAllButViews (engine_in self.old) (engine_in self.new) }
         ensures names { self.new.names ≡ self.old.names }
         ensures err { OnErr result (self.new.nodes ≡ self.old.nodes) }
@@ -194,7 +194,7 @@ impl Session {
 
     /// Asks the branching query that the text spells, as `path` does, and at the cost of `Engine::branch`.
     pub fn branch(&mut self, alloc: Global, via: Via, text: &[u8]) -> Result<How, QueryError>
-        ensures answers { AnswersText (SpellsBranch text.now) (is_past program_limits text.now) self.old self.new via result }
+        ensures answers { AnswersText (SpellsBranchQuery text.now) (is_past program_limits text.now) self.old self.new via result }
         ensures keeps { KeepsAllButViews (engine_in self.old) (engine_in self.new) }
         ensures names { self.new.names ≡ self.old.names }
         ensures err { OnErr result (self.new.nodes ≡ self.old.nodes) }

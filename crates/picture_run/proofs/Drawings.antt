@@ -20,7 +20,7 @@ use Rattle.index_picture.specs.NamedTerms.{AreTermNames}
 use Rattle.index_picture.specs.Pictures.{dot_text}
 use Rattle.picture_run.specs.DrawnFiles.{Draws, DrawsFile, HasDrawn, IsAsked, IsWhole, ShowsPicture}
 use Rattle.picture_run.specs.Settings.{Settings}
-use Rattle.picture_run.specs.ShownTexts.{ShowsText}
+use Rattle.picture_run.specs.ShownTexts.{ShowsLine}
 
 -- ---- what is asked for
 
@@ -54,7 +54,7 @@ whole_asked via g q e w = subst (λ v. IsAsked v g q) (sym e) w
 
 -- the picture of what is asked for
 pub shows_asked : (s : Settings) (g : Graph) (names : List (List ℕ)) (q : Quotient) (old new : Option (List ℕ)) (status : ℕ) → IsAsked s.via g q
-    → ShowsText (dot_text g q names s.blocks s.members) 0 old new status → ShowsPicture s g names old new status
+    → ShowsLine (dot_text g q names s.blocks s.members) 0 old new status → ShowsPicture s g names old new status
 shows_asked s g names q old new status asked shown =
     inl (dot_text g q names s.blocks s.members, record { drawn = q; asked = asked; text_is = refl }, shown)
 
@@ -78,12 +78,12 @@ unread (Some s) files old = draws_nothing s files old 7 (inr refl)
 -- ---- the status 0
 
 -- a text that is no picture has another status
-none_shown : (text : List ℕ) (own : ℕ) (old new : Option (List ℕ)) (status : ℕ) → status ≡ 0 → 1 ≤ own → ShowsText text own old new status → ⊥
+none_shown : (text : List ℕ) (own : ℕ) (old new : Option (List ℕ)) (status : ℕ) → status ≡ 0 → 1 ≤ own → ShowsLine text own old new status → ⊥
 none_shown text own old new status z some (inl e) = (let f = e.0 in omega (arith, f, z, some))
 none_shown text own old new status z some (inr (inl e)) = (let f = e.0 in omega (arith, f, z))
 none_shown text own old new status z some (inr (inr e)) = (let f = e.0 in omega (arith, f, z))
 
-picture_shown : (text : List ℕ) (old new : Option (List ℕ)) (status : ℕ) → status ≡ 0 → ShowsText text 0 old new status → Appends old new text
+picture_shown : (text : List ℕ) (old new : Option (List ℕ)) (status : ℕ) → status ≡ 0 → ShowsLine text 0 old new status → Appends old new text
 picture_shown text old new status z (inl e) = e.1
 picture_shown text old new status z (inr (inl e)) = (let f = e.0 in absurd (omega (arith, f, z)))
 picture_shown text old new status z (inr (inr e)) = (let f = e.0 in absurd (omega (arith, f, z)))

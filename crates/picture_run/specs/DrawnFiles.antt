@@ -17,7 +17,7 @@ use Rattle.index_picture.specs.LoneBlocks.{IsLone}
 use Rattle.index_picture.specs.NamedTerms.{AreTermNames}
 use Rattle.index_picture.specs.Pictures.{dot_text}
 use Rattle.picture_run.specs.Settings.{Settings}
-use Rattle.picture_run.specs.ShownTexts.{ShowsText, StopsAtOnce, graph_line, usage_line}
+use Rattle.picture_run.specs.ShownTexts.{ShowsLine, StopsAtOnce, graph_line, usage_line}
 
 -- each live node is a block of its own, and the supports are those of the edges
 pub record IsWhole (g : Graph) (q : Quotient) : Type 0 where
@@ -53,7 +53,7 @@ pub record IsPicture (s : Settings) (g : Graph) (names : List (List ℕ)) (text 
 -- the picture is written, unless a write fails or memory runs out
 abbrev pub ShowsPicture : Settings → Graph → List (List ℕ) → Option (List ℕ) → Option (List ℕ) → ℕ → Type 0
 ShowsPicture s g names old new status =
-    ((text : List ℕ) × IsPicture s g names text × ShowsText text 0 old new status) ⊎ ((status ≡ 7) × Keeps old new)
+    ((text : List ℕ) × IsPicture s g names text × ShowsLine text 0 old new status) ⊎ ((status ≡ 7) × Keeps old new)
 
 -- The text is a picture of the graph to which the file loads.
 pub record IsPictureOf (s : Settings) (files : Option (List File)) (text : List ℕ) : Type 0 where
@@ -72,13 +72,13 @@ pub record IsPictureOf (s : Settings) (files : Option (List File)) (text : List 
 
 -- the picture of the file is written, unless a write fails
 abbrev pub ShowsFile : Settings → Option (List File) → Option (List ℕ) → Option (List ℕ) → ℕ → Type 0
-ShowsFile s files old new status = (text : List ℕ) × IsPictureOf s files text × ShowsText text 0 old new status
+ShowsFile s files old new status = (text : List ℕ) × IsPictureOf s files text × ShowsLine text 0 old new status
 
 -- a line of the file is refused, and its number and the reason are written
 abbrev pub ShowsRefusal : Settings → Option (List File) → Option (List ℕ) → Option (List ℕ) → ℕ → Type 0
 ShowsRefusal s files old new status =
-    ((l : ℕ) × LoadsObservable program_limits files s.file (syntax l) × ShowsText (graph_line l (codes "syntax")) 3 old new status)
-    ⊎ ((l : ℕ) × LoadsObservable program_limits files s.file (limit l) × ShowsText (graph_line l (codes "limit")) 3 old new status)
+    ((l : ℕ) × LoadsObservable program_limits files s.file (syntax l) × ShowsLine (graph_line l (codes "syntax")) 3 old new status)
+    ⊎ ((l : ℕ) × LoadsObservable program_limits files s.file (limit l) × ShowsLine (graph_line l (codes "limit")) 3 old new status)
 
 -- what a run with these settings writes: the picture, which line is refused, or nothing
 abbrev pub DrawsFile : Settings → Option (List File) → Option (List ℕ) → Option (List ℕ) → ℕ → Type 0
@@ -87,7 +87,7 @@ DrawsFile s files old new status =
 
 -- what a run writes; there are no settings where the words are malformed
 abbrev pub Draws : Option Settings → Option (List File) → Option (List ℕ) → Option (List ℕ) → ℕ → Type 0
-Draws None files old new status = ShowsText usage_line 2 old new status
+Draws None files old new status = ShowsLine usage_line 2 old new status
 Draws (Some s) files old new status = DrawsFile s files old new status
 
 -- there are settings, and the whole picture of the file is written

@@ -8,8 +8,8 @@ abbrev pub StopsAtOnce : Option (List ℕ) → Option (List ℕ) → ℕ → Typ
 StopsAtOnce old new status = Keeps old new × ((status ≡ 5) ⊎ (status ≡ 7))
 
 -- the text is written with this status of its own, unless a write fails or memory runs out
-abbrev pub ShowsText : List ℕ → ℕ → Option (List ℕ) → Option (List ℕ) → ℕ → Type 0
-ShowsText text own old new status =
+abbrev pub ShowsLine : List ℕ → ℕ → Option (List ℕ) → Option (List ℕ) → ℕ → Type 0
+ShowsLine text own old new status =
     ((status ≡ own) × Appends old new text)
     ⊎ (((status ≡ 6) × AppendsPrefix old new text) ⊎ ((status ≡ 7) × Keeps old new))
 

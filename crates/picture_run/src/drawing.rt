@@ -10,7 +10,7 @@ ghost use Rattle.pathindex_core.specs.EngineTerms.{IsUnopened, IsOpened, StaysOp
 ghost use Rattle.picture_run.specs.DrawnFiles.{Draws, DrawsFile, HasDrawn, ShowsPicture};
 ghost use Rattle.picture_run.specs.Settings.{AreWithin};
 ghost use Rattle.picture_run.specs.SettingsValues.{settings_value};
-ghost use Rattle.picture_run.specs.ShownTexts.{ShowsText};
+ghost use Rattle.picture_run.specs.ShownTexts.{ShowsLine};
 ghost use Rattle.picture_run.specs.StatusCodes.{code_of};
 ghost use Rattle.picture_run.specs.Words.{settings_of};
 
@@ -38,7 +38,7 @@ fn show_summary<K: Sink>(
     names: &NodeNames,
     sink: &mut K,
 ) -> Status
-    ensures { ShowsText (picture.dot_text graph.now.graph summary.now names.now settings.now.blocks settings.now.members) 0
+    ensures { ShowsLine (picture.dot_text graph.now.graph summary.now names.now settings.now.blocks settings.now.members) 0
         (K.written sink.old) (K.written sink.new) (code_of result) }
 {
     match dot_text(

@@ -1,6 +1,6 @@
 // What is written, of a picture or if nothing is drawn.
 ghost use Rattle.std.specs.Prelude.{◌≡◌, ◌++◌, OnOk};
-ghost use Rattle.picture_run.specs.ShownTexts.{ShowsText, graph_line, usage_line};
+ghost use Rattle.picture_run.specs.ShownTexts.{ShowsLine, graph_line, usage_line};
 ghost use Rattle.picture_run.specs.StatusCodes.{code_of};
 
 use crate::status::Status;
@@ -13,7 +13,7 @@ const USAGE: &str =
 
 /// Writes a text, and answers that status if it is written.
 pub(crate) fn show_text<K: Sink>(sink: &mut K, text: &[u8], status: Status) -> Status
-    ensures { ShowsText text.now (code_of status) (K.written sink.old) (K.written sink.new) (code_of result) }
+    ensures { ShowsLine text.now (code_of status) (K.written sink.old) (K.written sink.new) (code_of result) }
 {
     match put_all(sink, text) {
         Ok(()) => status,
@@ -23,7 +23,7 @@ pub(crate) fn show_text<K: Sink>(sink: &mut K, text: &[u8], status: Status) -> S
 
 /// Writes the usage line.
 pub(crate) fn show_usage<K: Sink>(sink: &mut K) -> Status
-    ensures { ShowsText usage_line 2 (K.written sink.old) (K.written sink.new) (code_of result) }
+    ensures { ShowsLine usage_line 2 (K.written sink.old) (K.written sink.new) (code_of result) }
 {
     show_text(sink, USAGE.as_bytes(), Status::Usage)
 }
@@ -43,7 +43,7 @@ fn push_refusal(out: &mut Vec<u8>, line: u32, reason: &[u8]) -> Result<(), Memor
 
 /// Writes which line of the graph file is refused, and why.
 pub(crate) fn show_refusal<K: Sink>(alloc: Global, line: u32, reason: &str, sink: &mut K) -> Status
-    ensures { ShowsText (graph_line line reason.now) 3 (K.written sink.old) (K.written sink.new) (code_of result) }
+    ensures { ShowsLine (graph_line line reason.now) 3 (K.written sink.old) (K.written sink.new) (code_of result) }
 {
     let mut out = Vec::new(alloc);
     match push_refusal(&mut out, line, reason.as_bytes()) {

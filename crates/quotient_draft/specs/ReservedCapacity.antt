@@ -13,7 +13,7 @@ abbrev pub onto_count : List (ℕ × ℕ) → ℕ → ℕ
 onto_count pairs b = count_by (λ p. nat_eq b p.1) pairs
 
 -- the base has capacity reserved for what the draft shows
-pub record HasRoomFor (q : Quotient) (d : Drafted) : Type 0 where
+pub record HasReservedFor (q : Quotient) (d : Drafted) : Type 0 where
   -- for the numbers of nodes that move
   pub nodes : (n b : ℕ) → lookup (nat_eq n) d.moves ≡ Some (Some b) → n < length q.blocks.block_of + q.blocks.reserved.nodes
   -- for the new blocks

@@ -6,7 +6,7 @@ ghost use Rattle.bisim_spec.specs.IndexGraphs.{support_at};
 ghost use Rattle.quotient.specs.Quotients.{view_of};
 ghost use Rattle.quotient_draft.specs.Drafts.{no_changes, has_member, shown_labels, shown_blocks, shown_support, settled_view};
 ghost use Rattle.quotient_draft.specs.Basis.{IsOver};
-ghost use Rattle.quotient_draft.specs.ReservedCapacity.{HasRoomFor};
+ghost use Rattle.quotient_draft.specs.ReservedCapacity.{HasReservedFor};
 
 use crate::draft::Draft;
 use crate::retiring::retire_all;
@@ -20,7 +20,7 @@ impl Draft {
     pub fn reserve(&self, base: &mut Summary) -> Result<(), Memory>
         requires over { IsOver base.old.blocks.block_of base.old.blocks.labels self.now }
         ensures same { view_of base.new ≡ view_of base.old }
-        ensures reserved { OnOk result (HasRoomFor base.new self.now) }
+        ensures reserved { OnOk result (HasReservedFor base.new self.now) }
     {
         let nodes = self.moves.past(base.numbers());
         base.reserve(nodes, self.further(base), self.changed.len())?;
@@ -44,7 +44,7 @@ impl Draft {
     /// has no support as shown. Expected O(d) for d entries that are drafted, and what `clear` takes.
     pub fn settle(&mut self, base: &mut Summary)
         requires over { IsOver base.old.blocks.block_of base.old.blocks.labels self.old }
-        requires reserved { HasRoomFor base.old self.old }
+        requires reserved { HasReservedFor base.old self.old }
         requires inhabited { (b : ℕ) → IsSome (at base.old.blocks.labels b) → IsTrue (has_member base.old.blocks.block_of b) }
         requires from { (b c : ℕ) → has_member (shown_blocks base.old self.old) b ≡ false → shown_support base.old self.old b c ≡ 0 }
         requires onto { (b c : ℕ) → has_member (shown_blocks base.old self.old) b ≡ false → shown_support base.old self.old c b ≡ 0 }

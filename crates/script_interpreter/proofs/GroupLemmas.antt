@@ -12,7 +12,7 @@ use Rattle.change_spec.specs.Steps.{Step, node, link, unlink, drop, relabel, app
 use Rattle.script_read.specs.Commands.{Command, change, begin, end, insert, delete, path, branch, why, check, extents, sizes, save, forget, IsQuiet, IsSpelled, PassesLimit, SpellsNothing}
 use Rattle.script_read.proofs.CommandLemmas.{keyword, begins, lead, no_query, silent, free, node_free, relabel_free, quiet_free}
 use Rattle.script_interpreter.specs.declared.group.Scope.{Scope}
-use Rattle.script_interpreter.specs.declared.group.Scope.TheVariants.{Group as Lines}
+use Rattle.script_interpreter.specs.declared.group.Scope.TheVariants.{Lines}
 use Rattle.script_interpreter.specs.declared.group.OpenGroup.{OpenGroup}
 use Rattle.script_interpreter.specs.Outputs.{Gathered, with_printed}
 use Rattle.script_interpreter.specs.LineTexts.{reply}

@@ -16,7 +16,7 @@ pub(crate) enum Scope {
     /// It is a line of its own.
     Line,
     /// It is a group of lines.
-    Group,
+    Lines,
 }
 
 /// A group that isn't ended.

@@ -184,7 +184,7 @@ fn push_some(out: &mut Vec<u8>, applied: Applied, scope: Scope) -> Result<(), Me
 {
     match scope {
         Scope::Line => push_one(out, applied),
-        Scope::Group => push_all(out, applied),
+        Scope::Lines => push_all(out, applied),
     }
 }
 

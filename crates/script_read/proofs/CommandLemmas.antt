@@ -8,18 +8,18 @@ use Rattle.index_api.specs.declared.kinds.Via.{Via}
 use Rattle.index_api.specs.Spelling.{via_word, kind_word}
 use Rattle.graph_spec.specs.declared.limits.Limits.{Limits}
 use Rattle.triples_read.specs.declared.term.Triple.{Triple}
-use Rattle.triples_read.specs.Lines.{Spells as SpellsTriple}
+use Rattle.triples_read.specs.Lines.{SpellsTriple}
 use Rattle.path_spec.specs.Trees.{Expr}
 use Rattle.path_query.specs.Labels.{SpellsLabel}
-use Rattle.path_query.specs.Parsed.{Spells, is_past}
+use Rattle.path_query.specs.Parsed.{SpellsPath, is_past}
 use Rattle.branch_spec.specs.Trees.{Branch}
-use Rattle.branch_text.specs.Parsed.{Spells as SpellsQuery}
+use Rattle.branch_text.specs.Parsed.{SpellsBranch}
 use Rattle.script_read.specs.ScannedLines.{SaysNode, SaysRelabel, SaysTriple, SaysQuery, SaysWhy, SaysCheck, IsWhole, OpensTriple}
 use Rattle.script_read.specs.ReadLines.{ReadsCommand}
 use Rattle.script_read.specs.declared.commands.ScriptError.{ScriptError}
 use Rattle.script_read.specs.declared.commands.ScriptError.TheVariants.{Bad, Limit, Memory}
 use Rattle.graph_spec.specs.Words.{node_word}
-use Rattle.script_read.specs.Commands.{Command, change, begin, end, insert, delete, path, branch, why, check, extents, sizes, save, forget, IsIndex, IsVia, SaysNothing, IsQuiet, AsksWith, Asks, by_path, by_branch, by_why, by_check, SpellsNodes, SpellsPath, SpellsBranch, SpellsWhy, SpellsCheck, PassesLimit, IsSpelled, NoCommand}
+use Rattle.script_read.specs.Commands.{Command, change, begin, end, insert, delete, path, branch, why, check, extents, sizes, save, forget, IsIndex, IsVia, SaysNothing, IsQuiet, AsksWith, Asks, by_path, by_branch, by_why, by_check, SpellsNodes, SpellsPathLine, SpellsBranchLine, SpellsWhy, SpellsCheck, PassesLimit, IsSpelled, NoCommand}
 use Rattle.script_read.specs.FirstWords.{IsSplit, OpensNothing, first_word, behind_word, expression_text}
 use Rattle.script_read.proofs.WordLemmas.{head_word, is_split, words-cons}
 
@@ -199,7 +199,7 @@ module _ (line word rest : List ℕ) (loud : ¬ OpensNothing word) (is_first : w
       other (change (relabel u t)) h = absent u h.0 h.2 (follows _ _ h.1)
       other c h = clash _ e c h (λ d. omega (arith, d))
 
-  pub none_path : word ≡ codes "path" → ((via : Via) (x : Expr) → SpellsPath line via x → ⊥) → NoCommand line
+  pub none_path : word ≡ codes "path" → ((via : Via) (x : Expr) → SpellsPathLine line via x → ⊥) → NoCommand line
   none_path e absent = (not_quiet, other)
     where
       other : (c : Command) → IsSpelled line c → ⊥
@@ -207,7 +207,7 @@ module _ (line word rest : List ℕ) (loud : ¬ OpensNothing word) (is_first : w
       other (change d) h = clash _ e (change d) h (λ z. (no_query d).no_path (sym z))
       other c h = clash _ e c h (λ d. omega (arith, d))
 
-  pub none_branch : word ≡ codes "branch" → ((via : Via) (q : Branch) → SpellsBranch line via q → ⊥) → NoCommand line
+  pub none_branch : word ≡ codes "branch" → ((via : Via) (q : Branch) → SpellsBranchLine line via q → ⊥) → NoCommand line
   none_branch e absent = (not_quiet, other)
     where
       other : (c : Command) → IsSpelled line c → ⊥
@@ -472,25 +472,25 @@ delete_bad line text s absent =
     (λ t h. absent t (subst (λ x. SpellsTriple x t) (sym s.1) h))
 
 -- the line asks for what spells no expression
-pub path_bad : (line : List ℕ) (via : Via) (text : List ℕ) → SaysQuery (codes "path") line via text → ((e : Expr) → Spells text e → ⊥) → NoCommand line
+pub path_bad : (line : List ℕ) (via : Via) (text : List ℕ) → SaysQuery (codes "path") line via text → ((e : Expr) → SpellsPath text e → ⊥) → NoCommand line
 path_bad line via text s absent =
     none_path line (first_word line) (behind_word line) (λ o. (let n : OpensNothing (codes "path") = subst OpensNothing s.0.0 o in omega (arith, n))) refl refl s.0.0
-    (λ v x h. absent x (subst (λ t. Spells t x) (sym s.1) h.1))
+    (λ v x h. absent x (subst (λ t. SpellsPath t x) (sym s.1) h.1))
 
-pub branch_bad : (line : List ℕ) (via : Via) (text : List ℕ) → SaysQuery (codes "branch") line via text → ((q : Branch) → SpellsQuery text q → ⊥) → NoCommand line
+pub branch_bad : (line : List ℕ) (via : Via) (text : List ℕ) → SaysQuery (codes "branch") line via text → ((q : Branch) → SpellsBranch text q → ⊥) → NoCommand line
 branch_bad line via text s absent =
     none_branch line (first_word line) (behind_word line) (λ o. (let n : OpensNothing (codes "branch") = subst OpensNothing s.0.0 o in omega (arith, n))) refl refl s.0.0
-    (λ v x h. absent x (subst (λ t. SpellsQuery t x) (sym s.1) h.1))
+    (λ v x h. absent x (subst (λ t. SpellsBranch t x) (sym s.1) h.1))
 
-pub why_bad : (line : List ℕ) (v : ℕ) (text : List ℕ) → SaysWhy line v text → ((e : Expr) → Spells text e → ⊥) → NoCommand line
+pub why_bad : (line : List ℕ) (v : ℕ) (text : List ℕ) → SaysWhy line v text → ((e : Expr) → SpellsPath text e → ⊥) → NoCommand line
 why_bad line v text s absent =
     none_why line (first_word line) (behind_word line) (λ o. (let n : OpensNothing (codes "why") = subst OpensNothing s.0.0 o in omega (arith, n))) refl refl s.0.0
-    (λ u x h. absent x (subst (λ t. Spells t x) (sym s.1) h.1))
+    (λ u x h. absent x (subst (λ t. SpellsPath t x) (sym s.1) h.1))
 
-pub check_bad : (line word text : List ℕ) → SaysCheck line word text → ((e : Expr) → Spells text e → ⊥) → NoCommand line
+pub check_bad : (line word text : List ℕ) → SaysCheck line word text → ((e : Expr) → SpellsPath text e → ⊥) → NoCommand line
 check_bad line word text s absent =
     none_check line (first_word line) (behind_word line) (λ o. (let n : OpensNothing (codes "check") = subst OpensNothing s.0 o in omega (arith, n))) refl refl s.0
-    (λ u x h. absent x (subst (λ t. Spells t x) (sym s.2) h.1))
+    (λ u x h. absent x (subst (λ t. SpellsPath t x) (sym s.2) h.1))
 
 -- the word behind `check` spells no nodes
 pub nodes_bad : (line word text : List ℕ) → SaysCheck line word text → ((nodes : List ℕ) → SpellsNodes word nodes → ⊥) → NoCommand line × (¬ Asks line)
@@ -538,18 +538,18 @@ failed_text limits line text Limit a s l f = (a, subst (λ t. IsTrue (is_past li
 failed_text limits line text Memory a s l f = tt
 
 pub failed_path : (limits : Limits) (line : List ℕ) (via : Via) (text : List ℕ) (e : ScriptError) → SaysQuery (codes "path") line via text → (e ≡ Limit ↔ IsTrue (is_past limits text))
-    → (e ≡ Bad → (x : Expr) → Spells text x → ⊥) → ReadsCommand limits line (Err e)
+    → (e ≡ Bad → (x : Expr) → SpellsPath text x → ⊥) → ReadsCommand limits line (Err e)
 failed_path limits line via text e s l f = failed_text limits line text e (by_path via s.0) s.1 l (λ i. path_bad line via text s (f i))
 
 pub failed_branch : (limits : Limits) (line : List ℕ) (via : Via) (text : List ℕ) (e : ScriptError) → SaysQuery (codes "branch") line via text
-    → (e ≡ Limit ↔ IsTrue (is_past limits text)) → (e ≡ Bad → (q : Branch) → SpellsQuery text q → ⊥) → ReadsCommand limits line (Err e)
+    → (e ≡ Limit ↔ IsTrue (is_past limits text)) → (e ≡ Bad → (q : Branch) → SpellsBranch text q → ⊥) → ReadsCommand limits line (Err e)
 failed_branch limits line via text e s l f = failed_text limits line text e (by_branch via s.0) s.1 l (λ i. branch_bad line via text s (f i))
 
 pub failed_why : (limits : Limits) (line : List ℕ) (v : ℕ) (text : List ℕ) (e : ScriptError) → SaysWhy line v text → (e ≡ Limit ↔ IsTrue (is_past limits text))
-    → (e ≡ Bad → (x : Expr) → Spells text x → ⊥) → ReadsCommand limits line (Err e)
+    → (e ≡ Bad → (x : Expr) → SpellsPath text x → ⊥) → ReadsCommand limits line (Err e)
 failed_why limits line v text e s l f = failed_text limits line text e (by_why v s.0) s.1 l (λ i. why_bad line v text s (f i))
 
 pub failed_check : (limits : Limits) (line word text nodes : List ℕ) (e : ScriptError) → SaysCheck line word text → SpellsNodes word nodes → (e ≡ Limit ↔ IsTrue (is_past limits text))
-    → (e ≡ Bad → (x : Expr) → Spells text x → ⊥) → ReadsCommand limits line (Err e)
+    → (e ≡ Bad → (x : Expr) → SpellsPath text x → ⊥) → ReadsCommand limits line (Err e)
 failed_check limits line word text nodes e s n l f =
     failed_text limits line text e (by_check nodes (s.0, subst (λ w. SpellsNodes w nodes) s.1 n)) s.2 l (λ i. check_bad line word text s (f i))

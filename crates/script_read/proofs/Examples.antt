@@ -6,7 +6,7 @@ use Rattle.graph_spec.specs.Words.{node_word}
 use Rattle.change_spec.specs.Steps.{node, link, unlink, drop as drop_node, relabel}
 use Rattle.triples_read.specs.declared.term.Term.TheVariants.{Iri, Blank}
 use Rattle.triples_read.specs.declared.term.Triple.{Triple}
-use Rattle.triples_read.specs.Lines.{Spells as SpellsTriple}
+use Rattle.triples_read.specs.Lines.{SpellsTriple}
 use Rattle.triples_read.proofs.OneTriple.{spelled_not_empty}
 use Rattle.path_query.specs.Labels.{SpellsLabel}
 use Rattle.path_spec.specs.Trees.{Expr, only, last, once, label}

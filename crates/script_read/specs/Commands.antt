@@ -5,12 +5,12 @@ use Rattle.graph_spec.specs.declared.limits.Limits.{Limits}
 use Rattle.graph_spec.specs.Words.{words, node_word}
 use Rattle.change_spec.specs.Steps.{Step, node, link, unlink, drop, relabel}
 use Rattle.triples_read.specs.declared.term.Triple.{Triple}
-use Rattle.triples_read.specs.Lines.{Spells as SpellsTriple}
+use Rattle.triples_read.specs.Lines.{SpellsTriple}
 use Rattle.path_spec.specs.Trees.{Expr}
 use Rattle.path_query.specs.Labels.{SpellsLabel}
-use Rattle.path_query.specs.Parsed.{Spells, is_past}
+use Rattle.path_query.specs.Parsed.{SpellsPath, is_past}
 use Rattle.branch_spec.specs.Trees.{Branch}
-use Rattle.branch_text.specs.Parsed.{Spells as SpellsQuery}
+use Rattle.branch_text.specs.Parsed.{SpellsBranch}
 use Rattle.bisim_spec.specs.declared.kind.Kind.{Kind}
 use Rattle.index_api.specs.declared.kinds.Via.{Via}
 use Rattle.index_api.specs.declared.kinds.Via.TheVariants.{Data, A, One, Fb, B}
@@ -115,20 +115,20 @@ abbrev pub AsksCheck : List ℕ → List ℕ → Type 0
 AsksCheck line nodes = (first_word line ≡ codes "check") × SpellsNodes (first_word (behind_word line)) nodes
 
 -- it asks with `path`, and what follows, without the blanks at both ends, spells the expression
-abbrev pub SpellsPath : List ℕ → Via → Expr → Type 0
-SpellsPath line via e = AsksPath line via × Spells (expression_text line) e
+abbrev pub SpellsPathLine : List ℕ → Via → Expr → Type 0
+SpellsPathLine line via e = AsksPath line via × SpellsPath (expression_text line) e
 
 -- it asks with `branch`, and what follows, without the blanks at both ends, spells the query
-abbrev pub SpellsBranch : List ℕ → Via → Branch → Type 0
-SpellsBranch line via q = AsksBranch line via × SpellsQuery (expression_text line) q
+abbrev pub SpellsBranchLine : List ℕ → Via → Branch → Type 0
+SpellsBranchLine line via q = AsksBranch line via × SpellsBranch (expression_text line) q
 
 -- it asks with `why`, and what follows, without the blanks at both ends, spells the expression
 abbrev pub SpellsWhy : List ℕ → ℕ → Expr → Type 0
-SpellsWhy line v e = AsksWhy line v × Spells (expression_text line) e
+SpellsWhy line v e = AsksWhy line v × SpellsPath (expression_text line) e
 
 -- it asks with `check`, and what follows, without the blanks at both ends, spells the expression
 abbrev pub SpellsCheck : List ℕ → List ℕ → Expr → Type 0
-SpellsCheck line nodes e = AsksCheck line nodes × Spells (expression_text line) e
+SpellsCheck line nodes e = AsksCheck line nodes × SpellsPath (expression_text line) e
 
 -- the line asks with an expression: for answers, through the graph or some index, or about why a node is one
 pub data Asks (line : List ℕ) : Type 0 where
@@ -156,8 +156,8 @@ IsSpelled line begin = words line ≡ codes "begin" ∷ []
 IsSpelled line end = words line ≡ codes "end" ∷ []
 IsSpelled line (insert t) = NamesTriple line (codes "insert") t
 IsSpelled line (delete t) = NamesTriple line (codes "delete") t
-IsSpelled line (path via e) = SpellsPath line via e
-IsSpelled line (branch via q) = SpellsBranch line via q
+IsSpelled line (path via e) = SpellsPathLine line via e
+IsSpelled line (branch via q) = SpellsBranchLine line via q
 IsSpelled line (why v e) = SpellsWhy line v e
 IsSpelled line (check nodes e) = SpellsCheck line nodes e
 IsSpelled line (extents via) = SpellsExtents line via
@@ -183,11 +183,11 @@ LabelsOnce word = (t u : List ℕ) → SpellsLabel word t → SpellsLabel word u
 
 -- the text spells at most one path expression
 abbrev pub PathsOnce : List ℕ → Type 0
-PathsOnce text = (e f : Expr) → Spells text e → Spells text f → e ≡ f
+PathsOnce text = (e f : Expr) → SpellsPath text e → SpellsPath text f → e ≡ f
 
 -- and at most one branching query
 abbrev pub BranchesOnce : List ℕ → Type 0
-BranchesOnce text = (p q : Branch) → SpellsQuery text p → SpellsQuery text q → p ≡ q
+BranchesOnce text = (p q : Branch) → SpellsBranch text p → SpellsBranch text q → p ≡ q
 
 -- the line spells at most one command
 abbrev pub SpellsOnce : List ℕ → Type 0

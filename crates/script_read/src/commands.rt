@@ -1,12 +1,12 @@
 // Commands, and the lines that spell them.
 ghost use Rattle.std.specs.Prelude.{◌≡◌, ◌≢◌, ◌↔◌, ℕ, List, Err, IfOk, IsErrOf, IsTrue};
 ghost use Rattle.triples_read.specs.declared.term.Triple.{Triple as SpelledTriple};
-ghost use Rattle.triples_read.specs.Lines.{Spells as SpellsTriple};
+ghost use Rattle.triples_read.specs.Lines.{SpellsTriple};
 ghost use Rattle.path_spec.specs.Trees.{Expr};
 ghost use Rattle.path_query.specs.Labels.{SpellsLabel};
-ghost use Rattle.path_query.specs.Parsed.{Spells, is_past};
+ghost use Rattle.path_query.specs.Parsed.{SpellsPath, is_past};
 ghost use Rattle.branch_spec.specs.Trees.{Branch as Query};
-ghost use Rattle.branch_text.specs.Parsed.{Spells as SpellsQuery};
+ghost use Rattle.branch_text.specs.Parsed.{SpellsBranch};
 ghost use Rattle.script_read.specs.Commands.{Command as Spelled, IsQuiet, IsSpelled, SpellsNodes, LabelsOnce, PathsOnce, BranchesOnce, SpellsOnce};
 ghost use Rattle.script_read.specs.ReadLines.{ReadsCommand};
 
@@ -111,9 +111,9 @@ fn parse_triple(alloc: Global, text: &[u8]) -> Result<Triple, ScriptError>
 
 /// The path expression that the text spells.
 fn parse_path(alloc: Global, text: &[u8], limits: &Limits) -> Result<PathExpr, ScriptError>
-    ensures ok { IfOk result (Spells text.now) }
+    ensures ok { IfOk result (SpellsPath text.now) }
     ensures limit { (result ≡ Err ScriptError.Limit) ↔ IsTrue (is_past limits.now text.now) }
-    ensures bad { IsErrOf result ScriptError.Bad → (e : Expr) → Spells text.now e → ⊥ }
+    ensures bad { IsErrOf result ScriptError.Bad → (e : Expr) → SpellsPath text.now e → ⊥ }
     ensures once { PathsOnce text.now }
 {
     match PathExpr::parse(alloc, text, limits) {
@@ -126,9 +126,9 @@ fn parse_path(alloc: Global, text: &[u8], limits: &Limits) -> Result<PathExpr, S
 
 /// The branching query that the text spells.
 fn parse_branch(alloc: Global, text: &[u8], limits: &Limits) -> Result<Branch, ScriptError>
-    ensures ok { IfOk result (SpellsQuery text.now) }
+    ensures ok { IfOk result (SpellsBranch text.now) }
     ensures limit { (result ≡ Err ScriptError.Limit) ↔ IsTrue (is_past limits.now text.now) }
-    ensures bad { IsErrOf result ScriptError.Bad → (q : Query) → SpellsQuery text.now q → ⊥ }
+    ensures bad { IsErrOf result ScriptError.Bad → (q : Query) → SpellsBranch text.now q → ⊥ }
     ensures once { BranchesOnce text.now }
 {
     match Branch::parse(alloc, text, limits) {

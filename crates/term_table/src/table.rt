@@ -150,7 +150,7 @@ impl TermTable {
     /// The hint that leads to the first term of its chain. O(1), no memory.
     pub fn enter_chain(&self, hint: Hint) -> Hint {
         Hint {
-            place: self.index.front(hint.hash),
+            place: self.index.head(hint.hash),
             ..hint
         }
     }

@@ -1,6 +1,6 @@
 // Each public call of `label_graph` once, on a small graph.
 ghost use Rattle.std.specs.Prelude.{◌≡◌, ◌<◌, IsTrue, OnOk, length};
-ghost use Rattle.label_graph.specs.ReservedGraphs.{has_text};
+ghost use Rattle.graph_spec.specs.Graphs.{is_seen};
 
 use super::*;
 use label_graph::Digraph;
@@ -242,7 +242,7 @@ fn reserve_node_first(
     node: &Text,
     label: &Text,
 ) -> Result<(), Fail>
-    ensures label { OnOk result (IsTrue (has_text graph.new.reserved.relabels label.now)) }
+    ensures label { OnOk result (IsTrue (is_seen graph.new.reserved.relabels label.now)) }
     ensures node { OnOk result (0 < length graph.new.reserved.labels) }
 {
     graph.reserve_node(alloc, node)?;
@@ -257,7 +257,7 @@ fn reserve_label_first(
     node: &Text,
     label: &Text,
 ) -> Result<(), Fail>
-    ensures label { OnOk result (IsTrue (has_text graph.new.reserved.relabels label.now)) }
+    ensures label { OnOk result (IsTrue (is_seen graph.new.reserved.relabels label.now)) }
     ensures node { OnOk result (0 < length graph.new.reserved.labels) }
 {
     graph.reserve_label(alloc, label)?;
@@ -267,7 +267,7 @@ fn reserve_label_first(
 
 // Node 0 gets its label, and then the new node comes.
 fn give_both(rt: &impl Abort, graph: &mut Graph, label: &Text)
-    requires label { IsTrue (has_text graph.old.reserved.relabels label.now) }
+    requires label { IsTrue (is_seen graph.old.reserved.relabels label.now) }
     requires node { 0 < length graph.old.reserved.labels }
 {
     assert!(rt; graph.is_live(0) && graph.labels().len() < MOST);

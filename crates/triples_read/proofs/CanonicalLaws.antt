@@ -14,7 +14,7 @@ use Rattle.std.proofs.lemmas.List.{append-nil}
 use Rattle.std.proofs.lemmas.List.Concat.{flat_map-cons}
 use Rattle.triples_read.specs.Characters.{from_to, is_blank, is_letter, is_letter_or_digit}
 use Rattle.triples_read.specs.Terminals.{Many, StringPiece, STRING_LITERAL_QUOTE, escape_of, IsLabel, EndsIn, AllOf, OneOrMore, LANGTAG}
-use Rattle.triples_read.specs.Lines.{IsIri, IsBlankNode, IsLiteral, IsSubject, IsObject, Suffix, Spells, xsd_string, lang_string}
+use Rattle.triples_read.specs.Lines.{IsIri, IsBlankNode, IsLiteral, IsSubject, IsObject, Suffix, SpellsTriple, xsd_string, lang_string}
 use Rattle.triples_read.specs.SpelledPrefixes.{IsLabelPrefix}
 use Rattle.triples_read.specs.Quotes.{inner, Escape, escape_at, PieceIn}
 use Rattle.triples_read.specs.ByteReaders.{past_tag, tag_part}
@@ -209,7 +209,7 @@ object_canonical s (Literal text datatype tag) (quoted, rest, v, sp, string, tex
     ((string_text (chars text), suffix_text datatype tag, v, refl, string2, text_is, suffix2), scalars-both (string_text (chars text)) (suffix_text datatype tag) ok ok2)
 
 -- a triple whose parts are spelled is spelled by its canonical text
-pub parts_spelled : (t : Triple) (x y z : List ℕ) → IsSubject x t.subject → IsIri y t.predicate → IsObject z t.object → Spells (encodes (triple_text t)) t
+pub parts_spelled : (t : Triple) (x y z : List ℕ) → IsSubject x t.subject → IsIri y t.predicate → IsObject z t.object → SpellsTriple (encodes (triple_text t)) t
 parts_spelled t x y z is_subject is_predicate is_object =
     let (subject, ok1) = subject_canonical x t.subject is_subject in
     let (predicate, ok2) = iri_canonical y t.predicate is_predicate in
@@ -237,7 +237,7 @@ pub spelled-parts : (t : Triple) → IsSpelled t → (s : List ℕ) × (z : List
 spelled-parts t (line, (cs, before, triple, after, comment, parts, blanks, is, blanks2, last)) = (is.subject, is.object, is.is_subject, is.is_object)
 
 -- and so is one that some line spells
-pub canonical_spells : (t : Triple) → IsSpelled t → Spells (encodes (triple_text t)) t
+pub canonical_spells : (t : Triple) → IsSpelled t → SpellsTriple (encodes (triple_text t)) t
 canonical_spells t (line, (cs, before, triple, after, comment, parts, blanks, is, blanks2, last)) =
     parts_spelled t is.subject is.predicate is.object is.is_subject is.is_predicate is.is_object
 

@@ -6,7 +6,7 @@ use Rattle.std.proofs.lemmas.Str.{encodes-append}
 use Rattle.std.proofs.lemmas.List.{append-nil}
 use Rattle.triples_read.specs.Terminals.{Blanks, Comment}
 use Rattle.triples_read.specs.ByteReaders.{past_blanks, starts_with, is_over}
-use Rattle.triples_read.specs.Lines.{Suffix, IsIri, IsBlankNode, IsLiteral, IsSubject, IsObject, Spells, Empty}
+use Rattle.triples_read.specs.Lines.{Suffix, IsIri, IsBlankNode, IsLiteral, IsSubject, IsObject, SpellsTriple, Empty}
 use Rattle.triples_read.specs.SpelledPrefixes.{Prefix, IsText, EndsLabel}
 use Rattle.triples_read.specs.LineRests.{AfterObject, AfterPredicate, AfterSubject, FromSubject}
 use Rattle.triples_read.specs.declared.term.Term.{Term}
@@ -132,7 +132,7 @@ reassoc : (a b c d e g tail : List ℕ) → (a ++ (b ++ (c ++ (d ++ (e ++ (g ++ 
 reassoc a b c d e g tail = rw (append_assoc, append_assoc, append_assoc, append_assoc, append_assoc, append_assoc) refl
 
 -- a line by its parts
-pub spells-parts : (line : List ℕ) (t : Triple) → Spells line t → (cs : List ℕ) × (before : List ℕ) × (rest : List ℕ) × IsText line cs × (cs ≡ before ++ rest) × Blanks before × FromSubject rest t
+pub spells-parts : (line : List ℕ) (t : Triple) → SpellsTriple line t → (cs : List ℕ) × (before : List ℕ) × (rest : List ℕ) × IsText line cs × (cs ≡ before ++ rest) × Blanks before × FromSubject rest t
 spells-parts line t (cs, before, triple, after, comment, parts, blanks, is, blanks2, last) =
     let tail : List ℕ = after ++ comment in
     let whole : triple ++ tail ≡ is.subject ++ (is.gap ++ (is.predicate ++ (is.gap2 ++ (is.object ++ (is.gap3 ++ 46 ∷ tail))))) =
@@ -168,7 +168,7 @@ spells-parts line t (cs, before, triple, after, comment, parts, blanks, is, blan
       ),
     )
 
-pub parts-spells : (line : List ℕ) (t : Triple) (cs before rest : List ℕ) → IsText line cs → cs ≡ before ++ rest → Blanks before → FromSubject rest t → Spells line t
+pub parts-spells : (line : List ℕ) (t : Triple) (cs before rest : List ℕ) → IsText line cs → cs ≡ before ++ rest → Blanks before → FromSubject rest t → SpellsTriple line t
 parts-spells line t cs before rest is split blanks (subject, r1, p1, is_subject, (gap, predicate, r2, p2, b1, is_predicate, (gap2, object, r3, p3, b2, is_object, (gap3, after, comment, p4, b3, b4, last)))) =
     let tail : List ℕ = after ++ comment in
     let triple : List ℕ = subject ++ (gap ++ (predicate ++ (gap2 ++ (object ++ (gap3 ++ 46 ∷ []))))) in
@@ -198,7 +198,7 @@ first_not s (Blank label) after rest r (v, (sp, good), named) parts is =
     over_not 95 after (encodes ((58 ∷ v) ++ r)) (first-byte 95 after ((58 ∷ v) ++ r) (omega arith) (is.0 ∙ ap encodes (parts ∙ ap (λ (z : List ℕ). z ++ r) sp))) refl
 first_not s (Literal text datatype tag) after rest r h parts is = absurd h
 
-pub line-stands : (line after : List ℕ) (t : Triple) → after ≡ past_blanks line → Spells line t → (rest : List ℕ) × IsText after rest × FromSubject rest t × (is_over after ≡ false)
+pub line-stands : (line after : List ℕ) (t : Triple) → after ≡ past_blanks line → SpellsTriple line t → (rest : List ℕ) × IsText after rest × FromSubject rest t × (is_over after ≡ false)
 line-stands line after t after_is spelled =
     let (cs, before, rest, is, split, blanks, (s, r, parts, named, ends)) = spells-parts line t spelled in
     let (c, x, sp, small, other) = subject-starts s t.subject named in
@@ -216,7 +216,7 @@ empty-found line after (cs, (ok, eq)) after_is over =
     let (gap, rest, split, text, blanks) = skip-found line cs is in
     (record { chars = cs; scalars = ok; encoded = sym eq }, gap, rest, split, blanks, over-comment (past_blanks line) rest text (ap is_over (sym after_is) ∙ over))
 
-pub line-found : (line after : List ℕ) (t : Triple) → IsUtf8 line → after ≡ past_blanks line → ((rest : List ℕ) → IsText after rest → FromSubject rest t) → Spells line t
+pub line-found : (line after : List ℕ) (t : Triple) → IsUtf8 line → after ≡ past_blanks line → ((rest : List ℕ) → IsText after rest → FromSubject rest t) → SpellsTriple line t
 line-found line after t (cs, (ok, eq)) after_is found =
     let is : IsText line cs = (sym eq, ok) in
     let (gap, rest, split, text, blanks) = skip-found line cs is in

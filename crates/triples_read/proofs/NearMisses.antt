@@ -3,7 +3,7 @@ use Rattle.std.proofs.Common.{◌≡◌, ℕ, List, [], ◌∷◌, ◌++◌, ref
 use Rattle.std.specs.Prelude.{codes}
 use Rattle.triples_read.specs.Characters.{pn_chars, label_inner}
 use Rattle.triples_read.specs.Terminals.{EndsIn, LANGTAG}
-use Rattle.triples_read.specs.Lines.{Spells}
+use Rattle.triples_read.specs.Lines.{SpellsTriple}
 use Rattle.triples_read.specs.declared.term.Term.TheVariants.{Iri, Blank}
 use Rattle.triples_read.specs.ByteReaders.{past_label, string_escape_at, uchar_at}
 use Rattle.triples_read.proofs.Basics.{no_both}
@@ -49,7 +49,7 @@ pub no_q : string_escape_at (codes "qb") ≡ None
 no_q = refl
 
 -- `<a><b>_:c.#`
-pub whole_line : Spells (codes "<a> <b>_:c.#") (record { subject = Iri (codes "a"); predicate = codes "b"; object = Blank (codes "c") })
+pub whole_line : SpellsTriple (codes "<a> <b>_:c.#") (record { subject = Iri (codes "a"); predicate = codes "b"; object = Blank (codes "c") })
 unfolding lib.Utf8.encode
 whole_line = (
   record { chars = codes "<a> <b>_:c.#"; scalars = refl; encoded = refl },

@@ -6,7 +6,7 @@ use Rattle.std.proofs.lemmas.Str.{encodes_same}
 use Rattle.std.proofs.lemmas.List.{append_cancel_right}
 use Rattle.triples_read.specs.Terminals.{LANGTAG}
 use Rattle.triples_read.specs.ByteReaders.{past_blanks, past_label, starts_with, is_over}
-use Rattle.triples_read.specs.Lines.{IsIri, IsBlankNode, IsSubject, IsObject, Suffix, Spells, Empty}
+use Rattle.triples_read.specs.Lines.{IsIri, IsBlankNode, IsSubject, IsObject, Suffix, SpellsTriple, Empty}
 use Rattle.triples_read.specs.SpelledPrefixes.{IsText, EndsLabel, EndsTag}
 use Rattle.triples_read.specs.LineRests.{IsDatatype, AfterObject, AfterPredicate, AfterSubject, FromSubject}
 use Rattle.triples_read.specs.declared.quoted.Quote.TheVariants.{Angle, Double}
@@ -139,7 +139,7 @@ triple-unique b cs t u is (s, r, parts, named, after) (s2, r2, parts2, named2, a
     triple_same t.subject u.subject t.predicate u.predicate t.object u.object both.0 rest.0 rest.1
 
 -- a line spells at most one triple
-pub one_reading : (line : List ℕ) (t u : Triple) → Spells line t → Spells line u → t ≡ u
+pub one_reading : (line : List ℕ) (t u : Triple) → SpellsTriple line t → SpellsTriple line u → t ≡ u
 one_reading line t u one two =
     let (rest, text, parts, over) = line-stands line (past_blanks line) t refl one in
     let (rest2, text2, parts2, over2) = line-stands line (past_blanks line) u refl two in
@@ -147,7 +147,7 @@ one_reading line t u one two =
     triple-unique (past_blanks line) rest t u text parts (subst (λ (z : List ℕ). FromSubject z u) (sym same) parts2)
 
 -- and none where it is blank or a comment
-pub spelled_not_empty : (line : List ℕ) (t : Triple) → Spells line t → Empty line → ⊥
+pub spelled_not_empty : (line : List ℕ) (t : Triple) → SpellsTriple line t → Empty line → ⊥
 spelled_not_empty line t spelled empty =
     let (rest, text, parts, over) = line-stands line (past_blanks line) t refl spelled in
     no_both (is_over (past_blanks line)) (line-empty line (past_blanks line) refl empty) over

@@ -3,7 +3,7 @@ use Rattle.std.specs.Prelude.{ℕ, List, [], ◌∷◌, ◌++◌, ◌+◌, ◌/�
 use Rattle.std.specs.List.{flat_map}
 use Rattle.std.specs.Str.{chars}
 use Rattle.triples_read.specs.Characters.{is_iri_char}
-use Rattle.triples_read.specs.Lines.{xsd_string, Spells}
+use Rattle.triples_read.specs.Lines.{xsd_string, SpellsTriple}
 use Rattle.triples_read.specs.declared.term.Term.{Term}
 use Rattle.triples_read.specs.declared.term.Term.TheVariants.{Iri, Blank, Literal}
 use Rattle.triples_read.specs.declared.term.Triple.{Triple}
@@ -53,4 +53,4 @@ IsAppended old new cs = string_bytes new ≡ string_bytes old ++ encode_utf8_all
 
 -- some line spells the triple
 abbrev pub IsSpelled : Triple → Type 0
-IsSpelled t = (line : List ℕ) × Spells line t
+IsSpelled t = (line : List ℕ) × SpellsTriple line t

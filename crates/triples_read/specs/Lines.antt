@@ -75,8 +75,8 @@ pub record TextOf (bytes : List ℕ) : Type 0 where
   pub encoded : bytes ≡ encode_utf8_all chars
 
 -- a line with a triple: WS* triple WS* comment?
-abbrev pub Spells : List ℕ → Triple → Type 0
-Spells line t = (cs : TextOf line) × (before : List ℕ) × (triple : List ℕ) × (after : List ℕ) × (comment : List ℕ)
+abbrev pub SpellsTriple : List ℕ → Triple → Type 0
+SpellsTriple line t = (cs : TextOf line) × (before : List ℕ) × (triple : List ℕ) × (after : List ℕ) × (comment : List ℕ)
     × (cs.chars ≡ before ++ (triple ++ (after ++ comment))) × Blanks before × IsTriple triple t × Blanks after × Comment comment
 
 -- a line without one: WS* comment?

@@ -1,6 +1,6 @@
 // Lines.
 ghost use Rattle.std.specs.Prelude.{◌≡◌, List, ℕ, true, false, Ok, Some, None, ◌⊎◌, IfOk, IfSome, IfNone, IsErrOf, encode_utf8_all};
-ghost use Rattle.triples_read.specs.Lines.{IsIri, IsBlankNode, IsSubject, IsObject, Spells, Empty};
+ghost use Rattle.triples_read.specs.Lines.{IsIri, IsBlankNode, IsSubject, IsObject, SpellsTriple, Empty};
 ghost use Rattle.triples_read.specs.SpelledPrefixes.{Prefix, IsText, EachPrefix, IfRead, IsRead, EndsLabel};
 ghost use Rattle.triples_read.specs.LineRests.{EachRest, AfterObject, AfterPredicate, AfterSubject, FromSubject};
 
@@ -138,15 +138,15 @@ fn read_triple(spare: &mut SpareTexts, text: &str) -> Result<Option<Triple>, Mem
 /// memory that it takes.
 pub fn read_line(alloc: Global, line: &[u8]) -> Result<Option<Triple>, LineError>
     // A triple comes only where the line spells it.
-    ensures triple { IfOk result (λ r. IfSome r (λ t. Spells line.now t)) }
+    ensures triple { IfOk result (λ r. IfSome r (λ t. SpellsTriple line.now t)) }
     // None comes only where the line is blank or a comment.
     ensures none { IfOk result (λ r. IfNone r (Empty line.now)) }
     // What the line spells is read.
-    ensures spelled { (t : Triple) → Spells line.now t → (result ≡ Ok (Some t)) ⊎ IsErrOf result LineError.Memory }
+    ensures spelled { (t : Triple) → SpellsTriple line.now t → (result ≡ Ok (Some t)) ⊎ IsErrOf result LineError.Memory }
     // A blank line or a comment is read as such.
     ensures empty { Empty line.now → (result ≡ Ok None) ⊎ IsErrOf result LineError.Memory }
     // Syntax comes only where the line is neither.
-    ensures syntax { IsErrOf result LineError.Syntax → (¬ Empty line.now) × ((t : Triple) → Spells line.now t → ⊥) }
+    ensures syntax { IsErrOf result LineError.Syntax → (¬ Empty line.now) × ((t : Triple) → SpellsTriple line.now t → ⊥) }
 {
     let mut spare = SpareTexts::new(alloc);
     read_line_with(&mut spare, line)
@@ -156,15 +156,15 @@ pub fn read_line(alloc: Global, line: &[u8]) -> Result<Option<Triple>, LineError
 /// takes memory only for a text that is longer than its spare one, or for which none is left.
 pub fn read_line_with(spare: &mut SpareTexts, line: &[u8]) -> Result<Option<Triple>, LineError>
     // A triple comes only where the line spells it.
-    ensures triple { IfOk result (λ r. IfSome r (λ t. Spells line.now t)) }
+    ensures triple { IfOk result (λ r. IfSome r (λ t. SpellsTriple line.now t)) }
     // None comes only where the line is blank or a comment.
     ensures none { IfOk result (λ r. IfNone r (Empty line.now)) }
     // What the line spells is read.
-    ensures spelled { (t : Triple) → Spells line.now t → (result ≡ Ok (Some t)) ⊎ IsErrOf result LineError.Memory }
+    ensures spelled { (t : Triple) → SpellsTriple line.now t → (result ≡ Ok (Some t)) ⊎ IsErrOf result LineError.Memory }
     // A blank line or a comment is read as such.
     ensures empty { Empty line.now → (result ≡ Ok None) ⊎ IsErrOf result LineError.Memory }
     // Syntax comes only where the line is neither.
-    ensures syntax { IsErrOf result LineError.Syntax → (¬ Empty line.now) × ((t : Triple) → Spells line.now t → ⊥) }
+    ensures syntax { IsErrOf result LineError.Syntax → (¬ Empty line.now) × ((t : Triple) → SpellsTriple line.now t → ⊥) }
 {
     let Ok(text) = from_utf8(line) else {
         return Err(LineError::Syntax);

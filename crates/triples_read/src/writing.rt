@@ -2,7 +2,7 @@
 ghost use Rattle.std.specs.Prelude.{◌≡◌, ◌<◌, ℕ, List, IfOk, OnOk, encode_utf8_all, bytes_eq, false, Option};
 ghost use Rattle.std.specs.Str.{chars};
 ghost use Rattle.triples_read.specs.Characters.{is_iri_char};
-ghost use Rattle.triples_read.specs.Lines.{Spells, xsd_string};
+ghost use Rattle.triples_read.specs.Lines.{SpellsTriple, xsd_string};
 ghost use Rattle.triples_read.specs.Quotes.{quoted_char, quoted_chars, quoted_text};
 ghost use Rattle.triples_read.specs.Canonical.{upper_hex as upper_hex_of, iri_char, string_char, suffix_text, term_text, triple_text, IsSpelled, IsAppended};
 
@@ -173,7 +173,7 @@ pub fn write_term(alloc: Global, t: &Term) -> Result<Text, Memory>
 pub fn write_triple(alloc: Global, t: &Triple) -> Result<Text, Memory>
     ensures text { IfOk result (λ text. text ≡ encode_utf8_all (triple_text t.now)) }
     // Where some line spells the triple, this one does.
-    ensures spelled { IsSpelled t.now → IfOk result (λ text. Spells text t.now) }
+    ensures spelled { IsSpelled t.now → IfOk result (λ text. SpellsTriple text t.now) }
 {
     let mut out = String::new(alloc);
     push_triple(&mut out, t)?;

@@ -5,7 +5,7 @@ use Rattle.std.specs.Prelude.{◌&&◌, nat_eq, not}
 use Rattle.graph_spec.specs.Members.{has}
 use Rattle.px_base.specs.BitSets.{BitSet}
 use Rattle.walk_proof.specs.declared.marks.Pair.{Pair}
-use Rattle.walk_proof.specs.Marking.{row, IsMarked, Among, HasRoom, NotesIn, Notes, IsCleared}
+use Rattle.walk_proof.specs.Marking.{row, IsMarked, Among, HasMarkRows, NotesIn, Notes, IsCleared}
 
 -- without a member a list is empty
 pub none_empty : (xs : List ℕ) → ((m : ℕ) → has xs m ≡ false) → xs ≡ []
@@ -69,7 +69,7 @@ notes_then P rows rows2 rows3 l l2 l3 a b = record {
   ];
 }
 
-pub room_on : (P : ℕ → ℕ → Type 0) (states width : ℕ) (rows rows2 : List BitSet) (l l2 : List Pair) → Notes P rows rows2 l l2 → HasRoom states width rows → HasRoom states width rows2
+pub room_on : (P : ℕ → ℕ → Type 0) (states width : ℕ) (rows rows2 : List BitSet) (l l2 : List Pair) → Notes P rows rows2 l l2 → HasMarkRows states width rows → HasMarkRows states width rows2
 room_on P states width rows rows2 l l2 a h = record { count = a.count ∙ h.count; wide = λ s b. a.sizes s ∙ h.wide s b }
 
 abbrev pub no_row : BitSet

@@ -25,7 +25,7 @@ Among [] s c = ⊥
 Among (p ∷ ps) s c = ((p.state ≡ s) × (p.place ≡ c)) ⊎ Among ps s c
 
 -- there is a row of this width for each of so many states
-pub record HasRoom (states width : ℕ) (rows : List BitSet) : Type 0 where
+pub record HasMarkRows (states width : ℕ) (rows : List BitSet) : Type 0 where
   -- there is a row for each state
   pub count : length rows ≡ states
   -- each has this width

@@ -7,7 +7,7 @@ ghost use Rattle.path_spec.specs.PathAnswers.{IsAnswer};
 ghost use Rattle.path_automaton.specs.Programs.{state_at};
 ghost use Rattle.path_automaton.specs.Digraphs.{shape_through};
 ghost use Rattle.walk_spec.specs.LeastWalks.{IsLeast};
-ghost use Rattle.walk_proof.specs.Marking.{IsMarked, HasRoom};
+ghost use Rattle.walk_proof.specs.Marking.{IsMarked, HasMarkRows};
 ghost use Rattle.walk_proof.specs.Sources.{AreSources};
 ghost use Rattle.walk_proof.specs.Layering.{IsFound, IsFoundWay};
 
@@ -37,7 +37,7 @@ fn search_with<G: Digraph>(
     requires small { G.span g.now < 2 ^ 32 - 1 }
     requires count { length sources.now ≡ length program.now }
     requires sources { AreSources (state_at program.now) sources.now }
-    requires room { HasRoom (length program.now) (G.span g.now + 1) rows.old.items }
+    requires room { HasMarkRows (length program.now) (G.span g.now + 1) rows.old.items }
     requires unmarked { (s c : ℕ) → IsMarked rows.old.items s c → ⊥ }
     requires start { start < length program.now }
     requires end { IsSome (G.label_at g.now end) }

@@ -1,7 +1,7 @@
 // Marked pairs of a state and a place.
 ghost use Rattle.std.specs.Prelude.{◌≡◌, ◌<◌, ℕ, [], length, IsTrue, IfOk, OnOk};
 ghost use Rattle.graph_spec.specs.Members.{has};
-ghost use Rattle.walk_proof.specs.Marking.{row, IsMarked, Among, HasRoom, NotesIn, Notes, IsCleared};
+ghost use Rattle.walk_proof.specs.Marking.{row, IsMarked, Among, HasMarkRows, NotesIn, Notes, IsCleared};
 
 use crate::row::Row;
 use px_base::Memory;
@@ -48,7 +48,7 @@ impl Layer {
 
 /// For each state a row in which no place is marked.
 pub(crate) fn new_rows(alloc: Global, states: usize, width: u32) -> Result<Vec<Row>, Memory>
-    ensures room { IfOk result (λ rows. HasRoom states width rows.items) }
+    ensures room { IfOk result (λ rows. HasMarkRows states width rows.items) }
     ensures unmarked { IfOk result (λ rows. (s c : ℕ) → IsMarked rows.items s c → ⊥) }
 {
     let mut rows = Vec::new(alloc);

@@ -61,7 +61,7 @@ impl Row {
         ensures members { OnOk result ((m : ℕ) → has self.new.members m ≡ (nat_eq m place || has self.old.members m)) }
     {
         let new = !self.contains(place);
-        self.make_room(alloc)?;
+        self.spread_marks(alloc)?;
         if self.many.size() > 0 {
             self.many.insert(place);
         } else {
@@ -83,7 +83,7 @@ impl Row {
     }
 
     /// Goes over to a byte for each place, where there are many marks.
-    fn make_room(&mut self, alloc: Global) -> Result<(), Memory>
+    fn spread_marks(&mut self, alloc: Global) -> Result<(), Memory>
         ensures size { self.new.size ≡ self.old.size }
         ensures members { (m : ℕ) → has self.new.members m ≡ has self.old.members m }
     {

@@ -5,7 +5,7 @@ ghost use Rattle.path_automaton.specs.Programs.{state_at};
 ghost use Rattle.path_automaton.specs.NewMarks.{IsPlace};
 ghost use Rattle.walk_spec.specs.Ways.{Takes};
 ghost use Rattle.state_sets.specs.StateSets.{AreClosed, Behind};
-ghost use Rattle.walk_proof.specs.Marking.{row, IsMarked, Among, HasRoom};
+ghost use Rattle.walk_proof.specs.Marking.{row, IsMarked, Among, HasMarkRows};
 ghost use Rattle.walk_proof.specs.Sources.{AreSources};
 ghost use Rattle.walk_proof.specs.Layering.{layer_at, IsPassing, IsLeastOf, IsLayered, IsLeastWay, IsCandidate, BehindIn, IsSource, IsFirstNode, IsLeastNext, HaveSameNext};
 
@@ -296,7 +296,7 @@ fn trace_on<G: Digraph>(
 ) -> Result<(), Memory>
     requires count { length sources.now ≡ length program.now }
     requires sources { AreSources (state_at program.now) sources.now }
-    requires room { HasRoom (length program.now) (G.span g.now + 1) rows.old.items }
+    requires room { HasMarkRows (length program.now) (G.span g.now + 1) rows.old.items }
     requires layered { IsLayered G.Digraph g.now program.now end layers.now rows.old.items }
     requires first { (d : ℕ) → d + 1 ≡ length layers.now → Among (layer_at layers.now d) start (G.span g.now) }
     requires behind { behind.old.0 ≡ length program.now }
@@ -341,7 +341,7 @@ pub(crate) fn trace<G: Digraph>(
 ) -> Result<Vec<u32>, Memory>
     requires count { length sources.now ≡ length program.now }
     requires sources { AreSources (state_at program.now) sources.now }
-    requires room { HasRoom (length program.now) (G.span g.now + 1) rows.old.items }
+    requires room { HasMarkRows (length program.now) (G.span g.now + 1) rows.old.items }
     requires layered { IsLayered G.Digraph g.now program.now end layers.now rows.old.items }
     requires first { (d : ℕ) → d + 1 ≡ length layers.now → Among (layer_at layers.now d) start (G.span g.now) }
     requires start { start < length program.now }

@@ -7,7 +7,7 @@ use Rattle.std.proofs.Math.Utf8.{scalar, scalars, encodes}
 use Rattle.std.proofs.lemmas.Bool.{ne_eqb}
 use Rattle.std.proofs.lemmas.Str.{encodes-IsAscii}
 use Rattle.triples_read.specs.Characters.{is_iri_char, is_string_char}
-use Rattle.triples_read.specs.Lines.{IsIri, IsLiteral, IsObject, Spells, TextOf, xsd_string}
+use Rattle.triples_read.specs.Lines.{IsIri, IsLiteral, IsObject, SpellsTriple, TextOf, xsd_string}
 use Rattle.triples_read.specs.Terminals.{Blanks, Many, StringPiece}
 use Rattle.triples_read.specs.declared.term.Term.{Term}
 use Rattle.triples_read.specs.declared.term.Term.TheVariants.{Iri, Literal}
@@ -140,7 +140,7 @@ one_blank : Blanks (codes " ")
 one_blank = ((refl, refl), tt)
 
 line_spelled : (s p : ℕ) (o : List ℕ) (object : Term) → s < 2 ^ 64 → p < 2 ^ 64 → list_all is_small o ≡ true → IsObject o object
-    → (t : Triple) × Spells (triple_line (node_term s) (predicate_term p) o) t
+    → (t : Triple) × SpellsTriple (triple_line (node_term s) (predicate_term p) o) t
 line_spelled s p o object hs hp ho is =
     let line = triple_line (node_term s) (predicate_term p) o in (
       record { subject = Iri (encode_utf8_all (codes "http://e/s" ++ decimal s)); predicate = encode_utf8_all (codes "http://e/p" ++ decimal p); object = object },
@@ -187,7 +187,7 @@ object_spelled x = elim (is_node_at x) as (λ b. (object : Term) × (list_all is
     value = let v = drawn_small (state_after 4 x) 500 (lit< tt) in omega (arith, v)
 
 -- each line of a graph file spells a triple
-pub graph_spelled : (x : ℕ) → (t : Triple) × Spells (graph_line x) t
+pub graph_spelled : (x : ℕ) → (t : Triple) × SpellsTriple (graph_line x) t
 graph_spelled x =
     let o = object_spelled x in
     let a = drawn_small (state_after 1 x) 4000 (lit< tt) in

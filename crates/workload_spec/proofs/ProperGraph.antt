@@ -6,7 +6,7 @@ use Rattle.std.proofs.lemmas.Fmt.{length-decimal-le}
 use Rattle.px_base.specs.declared.lines.TheConstants.{GRAPH_BYTES, LINE_BYTES}
 use Rattle.graph_spec.specs.Lines.{Line, cut}
 use Rattle.graph_spec.proofs.LineLemmas.{cut-feed}
-use Rattle.triples_read.specs.Lines.{Spells}
+use Rattle.triples_read.specs.Lines.{SpellsTriple}
 use Rattle.triples_read.specs.declared.term.Triple.{Triple}
 use Rattle.workload.specs.Generator.{state_after}
 use Rattle.workload.specs.MadeTexts.{after_line, graph_line, graph_lines, is_node_at, lines_text, made_graph_text, node_term, object_at, object_term, predicate_at, predicate_term, subject_at, triple_line, value_at, value_term}
@@ -65,7 +65,7 @@ pub record IsTripleLine (line : List ℕ) : Type 0 where
   pub plain : list_all is_plain line ≡ true
   pub short : length line ≤ 200
   pub triple : Triple
-  pub spelled : Spells line triple
+  pub spelled : SpellsTriple line triple
 
 pub line_proper : (x : ℕ) → IsTripleLine (graph_line x)
 line_proper x =
@@ -112,11 +112,11 @@ graph_small seed = go 20000 (omega arith)
     go : (n : ℕ) → n ≤ 20000 → length (lines_text (graph_lines n seed)) ≤ GRAPH_BYTES
     go n h = let l = graph_length n seed in omega (arith, l, h)
 
-pub graph_proper : (seed i : ℕ) (l : Line) → slice_get (cut (made_graph_text seed)) i ≡ Some l → (length l.text ≤ LINE_BYTES) × (t : Triple) × Spells l.text t
+pub graph_proper : (seed i : ℕ) (l : Line) → slice_get (cut (made_graph_text seed)) i ≡ Some l → (length l.text ≤ LINE_BYTES) × (t : Triple) × SpellsTriple l.text t
 unfolding made_graph_text
 graph_proper seed i l e = go 20000 e
   where
-    go : (n : ℕ) → slice_get (cut (lines_text (graph_lines n seed))) i ≡ Some l → (length l.text ≤ LINE_BYTES) × (t : Triple) × Spells l.text t
+    go : (n : ℕ) → slice_get (cut (lines_text (graph_lines n seed))) i ≡ Some l → (length l.text ≤ LINE_BYTES) × (t : Triple) × SpellsTriple l.text t
     go n h =
         let p = each_line n seed i l (ap (λ ls. slice_get ls i) (sym (graph_cut n seed)) ∙ h) in
         (let s = p.short in omega (arith, s), p.triple, p.spelled)

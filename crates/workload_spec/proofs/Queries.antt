@@ -10,11 +10,11 @@ use Rattle.triples_read.specs.Characters.{is_iri_char}
 use Rattle.triples_read.specs.Terminals.{Many, IriPiece}
 use Rattle.triples_read.specs.Canonical.{iri_text, iri_spelling}
 use Rattle.path_query.specs.Labels.{IsPlainLabel, SpellsLabel}
-use Rattle.path_query.specs.Parsed.{Spells}
+use Rattle.path_query.specs.Parsed.{SpellsPath}
 use Rattle.path_query.proofs.LabelBytes.{both}
 use Rattle.path_spec.specs.Trees.{Expr, child, below, only, last, then, once, label}
 use Rattle.branch_spec.specs.Trees as tree
-use Rattle.branch_text.specs.Parsed.{Spells as SpellsQuery}
+use Rattle.branch_text.specs.Parsed.{SpellsBranch}
 
 -- ---- labels
 
@@ -61,7 +61,7 @@ plain_letter d h = (h, (λ e. omega (arith, ap (λ l. slice_index l 0) e)), (λ 
 abbrev pub long_path : Expr
 long_path = only (then (once (label (codes "<http://e/p0>"))) child (then (once (label (codes "iri"))) child (last (once (label (codes "<http://e/p1>"))))))
 
-pub long_spelled : Spells (codes "<http://e/p0>/iri/<http://e/p1>") long_path
+pub long_spelled : SpellsPath (codes "<http://e/p0>/iri/<http://e/p1>") long_path
 long_spelled = (
   [],
   codes "<http://e/p0>",
@@ -94,7 +94,7 @@ long_spelled = (
 abbrev pub deep_path : Expr
 deep_path = only (then (once (label (codes "g0"))) below (last (once (label (codes "literal")))))
 
-pub deep_spelled : Spells (codes "g0//literal") deep_path
+pub deep_spelled : SpellsPath (codes "g0//literal") deep_path
 deep_spelled = (
   [],
   codes "g0",
@@ -114,7 +114,7 @@ denied = tree.branch (tree.step (tree.label (codes "iri")) (tree.pred (tree.one 
     (tree.lone (tree.fails (tree.one (tree.lone (tree.rel tree.child (tree.step (tree.label (codes "<http://e/p1>")) tree.none) tree.end)))))
     )) tree.none)) tree.end
 
-pub denied_spelled : SpellsQuery (codes "iri[/<http://e/p0> and not(/<http://e/p1>)]") denied
+pub denied_spelled : SpellsBranch (codes "iri[/<http://e/p0> and not(/<http://e/p1>)]") denied
 denied_spelled = (
   [],
   codes "iri",

@@ -4,7 +4,7 @@ use Rattle.graph_spec.specs.Shapes.{shape_of}
 use Rattle.change_spec.specs.Steps.{apply, link}
 use Rattle.graph_load.specs.Loads.{Loads, loaded}
 use Rattle.branch_query.specs.Queries.{AreQueryAnswers}
-use Rattle.path_query.specs.Parsed.{Spells}
+use Rattle.path_query.specs.Parsed.{SpellsPath}
 use Rattle.pathindex_core.specs.Engines.{graph_in}
 use Rattle.example_library.proofs.Facts.{of_kept, not_refused, after_change}
 use Rattle.example_library.proofs.link_and_ask.Goals as goal
@@ -23,6 +23,6 @@ returns c =
       linked = graph_in c.update.new.self.engine.opened;
       links = subst (λ change. apply change opens.graph program_limits ≡ Ok (graph_in c.update.new.self.engine.opened)) asked linked;
       expr = found.1.0;
-      spells = subst (λ text. Spells text found.1.0) c.as_bytes-2.ensures.value found.1.1;
+      spells = subst (λ text. SpellsPath text found.1.0) c.as_bytes-2.ensures.value found.1.1;
       answers = subst (λ q. AreQueryAnswers (shape_of (graph_in c.update.new.self.engine.opened)) q c.path.new.self.nodes) found.1.2 found.2.answers;
     }

@@ -164,10 +164,10 @@ impl Loader {
 
     // Whether the last child of the subject and the last parent of the object, where there are any, have allocated numbers.
     fn has_ends(&self, hints: Hints) -> bool {
-        self.is_given(self.child(hints.subject)) && self.is_given(self.parent(hints.object))
+        self.is_allocated(self.child(hints.subject)) && self.is_allocated(self.parent(hints.object))
     }
 
-    fn is_given(&self, node: Option<NodeId>) -> bool {
+    fn is_allocated(&self, node: Option<NodeId>) -> bool {
         match node {
             Some(node) => node < self.graph.created(),
             None => true,

@@ -11,5 +11,5 @@ returns c =
     let p = c.in_ok-chains.chains in
     let same = c.in_ok-chains.ensures in
     c.from_string.ensures
-    ∙ gathered texts p (subst (LabelsHaveTexts texts) (sym same) c.requires.labelled) c.from.result _ _ _ (c.from.ensures ∙ c.count_led.ensures) c.new-out.ensures.bytes c.in_ok-push_count.ensures c.in_ok-push_blocks.ensures
+    ∙ gathered texts p (subst (LabelsHaveTexts texts) (sym same) c.requires.labelled) c.from.result _ _ _ (c.from.ensures ∙ c.count_begun.ensures) c.new-out.ensures.bytes c.in_ok-push_count.ensures c.in_ok-push_blocks.ensures
     ∙ ap (λ p. extents_text (shape_of_blocks texts p) (together p.block_of)) same

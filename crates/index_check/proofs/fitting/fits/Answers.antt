@@ -2,7 +2,7 @@ use Rattle.std.proofs.Common.{◌↔◌, Bool, IsTrue, length, sym, ◌∙◌, s
 use Rattle.std.proofs.lemmas.Result.{IfOk-weaker}
 use Rattle.label_graph.specs.GraphViews.{label_number, is_linked}
 use Rattle.bisim_spec.specs.Partitions.{IsPartition}
-use Rattle.index_file.specs.FittingViews.{FitsVia}
+use Rattle.index_file.specs.FittingViews.{IsPartitionVia}
 use Rattle.index_file.specs.SavedGraphs.{blocks_at}
 use Rattle.round_refinement.specs.NumberedShapes.{shape_by_number}
 use Rattle.index_check.proofs.ViaLaws.{via_told, partition_told, view_told}
@@ -27,9 +27,9 @@ returns c =
     let same = c.deref.ensures.value ∙ c.in_ok-block.ensures in
     let told = via_told g known.graph known.shape c.via.result block in
     let view = view_told c.args.saved.now c.args.j c.via.result c.via.ensures in
-    IfOk-weaker c.fits_via.result (λ (yes : Bool). IsTrue yes ↔ FitsVia s c.via.result c.deref.result.now) _
+    IfOk-weaker c.fits_via.result (λ (yes : Bool). IsTrue yes ↔ IsPartitionVia s c.via.result c.deref.result.now) _
     (λ yes e. (
-      λ h. view.0 (told.0 (subst (FitsVia s c.via.result) same (e.0 h))),
-      λ f. e.1 (subst (FitsVia s c.via.result) (sym same) (told.1 (view.1 f))),
+      λ h. view.0 (told.0 (subst (IsPartitionVia s c.via.result) same (e.0 h))),
+      λ f. e.1 (subst (IsPartitionVia s c.via.result) (sym same) (told.1 (view.1 f))),
     ))
     c.fits_via.ensures

@@ -1,7 +1,7 @@
 use Rattle.std.proofs.Common.{◌≡◌, ℕ, ◌+◌, ◌≤◌, arith, false, sym, refl, subst, ◌∙◌, rules}
 use Rattle.px_base.specs.ReaderStates.{stream}
 use Rattle.index_file.specs.Readings.{is_complete, file_of}
-use Rattle.index_file.specs.Reads.{holds, syntax}
+use Rattle.index_file.specs.Reads.{holds, bad_syntax}
 use Rattle.index_file.specs.ReadSteps.{ReadsRest, ReadsAhead, TellsOutcome, place}
 use Rattle.index_file.proofs.Matches.{on_ok_then, if_err_then}
 use Rattle.index_file.proofs.LineLaws.{ends_complete, ends_early, tells_map}
@@ -47,11 +47,11 @@ returns-in-Ok-false-clause-refused g c =
     let here = ends_early c.args.limits.now before (stream c.read_next.new.reader (g.H.Shelf.left c.read_next.new.shelf)) (place c.lines.reader c.lines.draft)
     (place c.read_next.new.reader c.read_next.new.draft) goes in
     let told : (n : ℕ) → n ≡ c.read_next.new.reader.number → is_complete c.read_next.new.draft ≡ false
-    → ReadsAhead c.args.limits.now before (place c.lines.reader c.lines.draft) (syntax (n + 1)) =
-    λ n e part. subst (λ k. ReadsAhead c.args.limits.now before (place c.lines.reader c.lines.draft) (syntax (k + 1))) (sym e) (here part) in
+    → ReadsAhead c.args.limits.now before (place c.lines.reader c.lines.draft) (bad_syntax (n + 1)) =
+    λ n e part. subst (λ k. ReadsAhead c.args.limits.now before (place c.lines.reader c.lines.draft) (bad_syntax (k + 1))) (sym e) (here part) in
     if_err_then c.check_end.result _ _ (λ e h.
     subst (TellsOutcome (ReadsRest c.args.limits.now c.args.reader.now (g.H.Shelf.left c.args.shelf.now) c.args.draft.now)) (sym h.0)
-    (c.lines.invariant.leads (syntax (c.number.result + 1)) (told c.number.result c.number.ensures h.1))) c.check_end.ensures.early
+    (c.lines.invariant.leads (bad_syntax (c.number.result + 1)) (told c.number.result c.number.ensures h.1))) c.check_end.ensures.early
 
 pub returns-in-Err-clause-refused : goal.returns-in-Err-clause-refused
 returns-in-Err-clause-refused g c =

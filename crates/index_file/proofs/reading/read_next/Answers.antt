@@ -1,6 +1,6 @@
 use Rattle.std.proofs.Common.{true≢false, sym, ◌∙◌, rules, ap, Err}
 use Rattle.px_base.specs.ReaderStates.{stream}
-use Rattle.index_file.proofs.LineLaws.{goes_result, refused_result, can_result, nearer_result, never_missing, never_fault, goes_over, past_limit}
+use Rattle.index_file.proofs.LineLaws.{goes_result, refused_result, can_result, nearer_result, never_missing, never_fault, goes_over, line_past_limit}
 use Rattle.index_file.proofs.reading.read_next.Goals as goal
 
 pub returns-in-Ok-true : goal.returns-in-Ok-true
@@ -51,7 +51,7 @@ returns-in-Err-Limit g c =
       goes = tt;
       can = tt;
       nearer = tt;
-      refused = past_limit c.args.limits.now r before c.args.draft.now c.number-in-Err-Limit.result (c.in-Err-Limit.ensures.limit (ap Err c.in-Err-Limit.field-0-is)) c.requires.can.line_limit c.requires.can.text_limit
+      refused = line_past_limit c.args.limits.now r before c.args.draft.now c.number-in-Err-Limit.result (c.in-Err-Limit.ensures.limit (ap Err c.in-Err-Limit.field-0-is)) c.requires.can.line_limit c.requires.can.text_limit
           (c.number-in-Err-Limit.ensures ∙ c.in-Err-Limit.ensures.number (ap Err c.in-Err-Limit.field-0-is));
       found = search rules;
       same = c.next.ensures.files;

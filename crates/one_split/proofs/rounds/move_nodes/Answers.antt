@@ -1,10 +1,11 @@
 use Rattle.std.proofs.Common.{◌≡◌, ◌<◌, length, arith, subst, ◌∙◌}
+use Rattle.graph_spec.specs.Members.{at}
 use Rattle.std.specs.Prelude.{slice_index}
 use Rattle.graph_spec.specs.Shapes.{shape_of}
 use Rattle.graph_update.specs.PendingChanges.{graph_after}
 use Rattle.quotient_draft.specs.Drafts.{shown_blocks}
 use Rattle.one_split.specs.SplitCosts.{move_cost}
-use Rattle.one_split.specs.NodeTargetBlocks.{target_block_at, HaveGone}
+use Rattle.one_split.specs.NodeTargetBlocks.{HaveGone}
 use Rattle.one_spec.proofs.Sums.{sum_next, sum_first}
 use Rattle.one_split.proofs.Gone.{OneMoved, OneListed, gone_more, next_more}
 use Rattle.one_split.proofs.ListIndexes.{has_place}
@@ -23,7 +24,7 @@ loop-i-preserved g c =
     let inv = c.loop-i.invariant in
     let ok = c.in_ok-move_one.ensures in
     let below : c.loop-i.i < length c.args.nodes.now = omega arith in
-    let is : c.target_block_of-target_block.result ≡ target_block_at target_blocks (slice_index numbers i) = c.target_block_of-target_block.ensures in
+    let is : c.target_block_of-target_block.result ≡ at target_blocks (slice_index numbers i) = c.target_block_of-target_block.ensures in
     let moved : OneMoved (slice_index nodes i) c.target_block_of-target_block.result q q2 = record { blocks = ok.moved } in
     let listed : OneListed s (slice_index nodes i) c.target_block_of-target_block.result c.loop-i.next.list.items c.move_one.new.next.list.items = record { members = ok.next } in
     let next = sum_next (move_cost c.args.after.now) nodes i 0 below in

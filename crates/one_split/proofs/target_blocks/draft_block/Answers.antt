@@ -7,6 +7,6 @@ use Rattle.one_split.proofs.target_blocks.draft_block.Goals as goal
 pub returns-clause-empty : goal.returns-clause-empty
 returns-clause-empty c = λ n e. true≢false (sym (c.requires.live.some n c.in_ok-b.b e) ∙ ap is_some c.in_ok-b.ensures.least.free)
 
-pub returns-clause-told : goal.returns-clause-told
-returns-clause-told c = λ x.
+pub returns-clause-label : goal.returns-clause-label
+returns-clause-label c = λ x.
     ap (λ (ls : List (Option ℕ)). at ls x) c.in_ok-b.ensures.labels ∙ at_put (shown_labels c.args.base.now c.args.draft.now) c.in_ok-b.b c.args.label x

@@ -14,5 +14,5 @@ pub returns-clause-goes : goal.returns-clause-goes
 returns-clause-goes c =
     let labels : ℕ → Option ℕ = at (shown_labels c.args.base.now c.args.draft.now) in
     let labels2 : ℕ → Option ℕ = at (shown_labels c.args.base.now c.draft_block.new.draft) in
-    let some = is_some_at (labels2 c.in_ok-b.b) c.label.result (told_some labels labels2 c.in_ok-b.b c.label.result c.in_ok-b.ensures.told) in
+    let some = is_some_at (labels2 c.in_ok-b.b) c.label.result (told_some labels labels2 c.in_ok-b.b c.label.result c.in_ok-b.ensures.label) in
     (refl, c.in_ok-b.ensures.empty, c.in_ok-b.ensures.free, some, c.may_stay.ensures.no c.if-may_stay.false)

@@ -42,8 +42,8 @@ returns-clause-new_blocks g c =
     let labels : ℕ → Option ℕ = at (shown_labels c.args.base.now c.args.draft.now) in
     let labels2 : ℕ → Option ℕ = at (shown_labels c.args.base.now c.draft_block.new.draft) in
     let same : shown_labels c.args.base.now c.move_node.new.draft ≡ shown_labels c.args.base.now c.draft_block.new.draft = ap (with_added c.args.base.now.blocks.labels) c.move_node.ensures.added in
-    let keep = labels_kept labels labels2 c.in_ok-b.b c.label.result c.in_ok-b.ensures.free c.in_ok-b.ensures.told in
-    let some = is_some_at (labels2 c.in_ok-b.b) c.label.result (told_some labels labels2 c.in_ok-b.b c.label.result c.in_ok-b.ensures.told) in
+    let keep = labels_kept labels labels2 c.in_ok-b.b c.label.result c.in_ok-b.ensures.free c.in_ok-b.ensures.label in
+    let some = is_some_at (labels2 c.in_ok-b.b) c.label.result (told_some labels labels2 c.in_ok-b.b c.label.result c.in_ok-b.ensures.label) in
     subst (λ (ls : List (Option ℕ)). AreBlocks (at ls) c.push.new.self.items) (sym same)
     (blocks_more labels labels2 c.args.new_blocks.now.items c.push.new.self.items c.in_ok-b.b c.requires.new_blocks c.in_ok-b.ensures.free keep some c.in_ok-push.ensures.items)
 
@@ -54,8 +54,8 @@ returns-clause-parting g c = λ inside first rest rest2 closed within is_first a
     let p2 = shown_blocks c.args.base.now c.move_node.new.draft in
     let labels : ℕ → Option ℕ = at (shown_labels c.args.base.now c.args.draft.now) in
     let labels2 : ℕ → Option ℕ = at (shown_labels c.args.base.now c.draft_block.new.draft) in
-    let keep = labels_kept labels labels2 c.in_ok-b.b c.label.result c.in_ok-b.ensures.free c.in_ok-b.ensures.told in
-    let some = is_some_at (labels2 c.in_ok-b.b) c.label.result (told_some labels labels2 c.in_ok-b.b c.label.result c.in_ok-b.ensures.told) in
+    let keep = labels_kept labels labels2 c.in_ok-b.b c.label.result c.in_ok-b.ensures.free c.in_ok-b.ensures.label in
+    let some = is_some_at (labels2 c.in_ok-b.b) c.label.result (told_some labels labels2 c.in_ok-b.b c.label.result c.in_ok-b.ensures.label) in
     let blocks = blocks_more labels labels2 c.args.new_blocks.now.items c.push.new.self.items c.in_ok-b.b c.requires.new_blocks c.in_ok-b.ensures.free keep some c.in_ok-push.ensures.items in
     part_moves s inside first p p2 c.args.next.now.list.items c.add_children.new.self.list.items rest rest2 c.args.new_blocks.now.items c.push.new.self.items c.args.target c.in_ok-b.b c.requires.shown.shape closed within
     c.requires.node (apart_from p (shown_blocks c.args.base.now c.draft_block.new.draft) p2 c.args.target c.in_ok-b.b c.in_ok-b.ensures.empty c.in_ok-b.ensures.stay c.in_ok-move_node.ensures.moved)
@@ -69,7 +69,7 @@ returns-clause-block_labels g c = λ rest rest2 is_first block_labels.
     let labels2 : ℕ → Option ℕ = at (shown_labels c.args.base.now c.draft_block.new.draft) in
     let node_labels = label_number (graph_after c.args.after.now) in
     let same : shown_labels c.args.base.now c.move_node.new.draft ≡ shown_labels c.args.base.now c.draft_block.new.draft = ap (with_added c.args.base.now.blocks.labels) c.move_node.ensures.added in
-    let keep = labels_kept labels labels2 c.in_ok-b.b c.label.result c.in_ok-b.ensures.free c.in_ok-b.ensures.told in
+    let keep = labels_kept labels labels2 c.in_ok-b.b c.label.result c.in_ok-b.ensures.free c.in_ok-b.ensures.label in
     subst (λ (ls : List (Option ℕ)). BlocksHaveLabelsBut rest2 p2 (at ls) node_labels) (sym same)
     (block_labels_moved c.args.target c.in_ok-b.b c.label.result p (shown_blocks c.args.base.now c.draft_block.new.draft) p2 labels labels2 node_labels rest rest2 c.in_ok-b.ensures.stay c.in_ok-move_node.ensures.moved
-    (told_some labels labels2 c.in_ok-b.b c.label.result c.in_ok-b.ensures.told) c.label.ensures.number keep is_first block_labels)
+    (told_some labels labels2 c.in_ok-b.b c.label.result c.in_ok-b.ensures.label) c.label.ensures.number keep is_first block_labels)

@@ -2,8 +2,8 @@ use Rattle.graph_update.specs.PendingChanges.{graph_after}
 use Rattle.one_update.proofs.IndexEffects.{index_base, index_start, index_done}
 use Rattle.one_update.proofs.effects.draft_effects.Goals as goal
 
-pub join_nodes-requires-clause-start : goal.join_nodes-requires-clause-start
-join_nodes-requires-clause-start c =
+pub add_nodes-requires-clause-start : goal.add_nodes-requires-clause-start
+add_nodes-requires-clause-start c =
     let b = c.requires.before in
     index_start c.args.after.now.before (graph_after c.args.after.now) c.args.base.now c.args.draft.now (index_base c.args.after.now.before c.args.base.now b.graph b.fits) c.requires.empty
 

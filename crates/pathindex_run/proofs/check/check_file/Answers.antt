@@ -2,20 +2,20 @@ use Rattle.std.proofs.Common.{◌≡◌, ℕ, List, inl, inr, refl, subst, arith
 use Rattle.px_base.specs.Causes.{MayHaveRisen}
 use Rattle.graph_spec.specs.declared.limits.Limits.{Limits}
 use Rattle.command_line.specs.Forms.{checks}
-use Rattle.index_file.specs.Reads.{Outcome, Reads, holds, syntax, limit}
+use Rattle.index_file.specs.Reads.{ReadOutcome, Reads, holds, bad_syntax, past_limit}
 use Rattle.index_file.specs.ReadSteps.{ReadsObservable, LacksFile}
 use Rattle.index_file.specs.SavedFiles.{SavedFile}
 use Rattle.pathindex_run.proofs.CheckLemmas.{check_shown, check_stopped, check_missing, views_status, refused_status, missing_status, views_whole, refused_whole, missing_whole, fault_whole}
 use Rattle.pathindex_run.proofs.check.check_file.Goals as goal
 
-no_syntax : (n : ℕ) (s : SavedFile) → syntax n ≡ holds s → ⊥
+no_syntax : (n : ℕ) (s : SavedFile) → bad_syntax n ≡ holds s → ⊥
 no_syntax n s e = cc
 
-no_limit : (n : ℕ) (s : SavedFile) → limit n ≡ holds s → ⊥
+no_limit : (n : ℕ) (s : SavedFile) → past_limit n ≡ holds s → ⊥
 no_limit n s e = cc
 
 abbrev OneOutcome : Limits → Type 0
-OneOutcome m = (text : List ℕ) (a b : Outcome) → Reads m text a → Reads m text b → a ≡ b
+OneOutcome m = (text : List ℕ) (a b : ReadOutcome) → Reads m text a → Reads m text b → a ≡ b
 
 -- ---- the file was read
 
@@ -42,8 +42,8 @@ returns-in-Err-Syntax-clause-does g c =
     let files = g.H.Shelf.files c.args.shelf.now in
     let name = c.args.name.now in
     let line = c.in-Err-Syntax.line in
-    check_shown files name (syntax line) _ _ _
-    (subst (λ (m : Limits). ReadsObservable m files name (syntax line)) c.program.ensures (rw c.in-Err-Syntax.field-0-is at c.in-Err-Syntax.ensures.refused))
+    check_shown files name (bad_syntax line) _ _ _
+    (subst (λ (m : Limits). ReadsObservable m files name (bad_syntax line)) c.program.ensures (rw c.in-Err-Syntax.field-0-is at c.in-Err-Syntax.ensures.refused))
     (inl c.show_refusal.ensures.does)
 
 pub returns-in-Err-Syntax-clause-status : goal.returns-in-Err-Syntax-clause-status
@@ -56,8 +56,8 @@ returns-in-Err-Syntax-clause-whole g c =
     let files = g.H.Shelf.files c.args.shelf.now in
     let name = c.args.name.now in
     let line = c.in-Err-Syntax.line in
-    refused_whole files name (syntax line) _ _ _ _ _
-    (subst (λ (m : Limits). ReadsObservable m files name (syntax line)) c.program.ensures (rw c.in-Err-Syntax.field-0-is at c.in-Err-Syntax.ensures.refused))
+    refused_whole files name (bad_syntax line) _ _ _ _ _
+    (subst (λ (m : Limits). ReadsObservable m files name (bad_syntax line)) c.program.ensures (rw c.in-Err-Syntax.field-0-is at c.in-Err-Syntax.ensures.refused))
     (no_syntax line) (subst OneOutcome c.program.ensures c.read.ensures.once)
 
 pub returns-in-Err-Limit-clause-does : goal.returns-in-Err-Limit-clause-does
@@ -65,8 +65,8 @@ returns-in-Err-Limit-clause-does g c =
     let files = g.H.Shelf.files c.args.shelf.now in
     let name = c.args.name.now in
     let line = c.in-Err-Limit.line in
-    check_shown files name (limit line) _ _ _
-    (subst (λ (m : Limits). ReadsObservable m files name (limit line)) c.program.ensures (rw c.in-Err-Limit.field-0-is at c.in-Err-Limit.ensures.refused))
+    check_shown files name (past_limit line) _ _ _
+    (subst (λ (m : Limits). ReadsObservable m files name (past_limit line)) c.program.ensures (rw c.in-Err-Limit.field-0-is at c.in-Err-Limit.ensures.refused))
     (inl c.show_refusal-in-Err-Limit.ensures.does)
 
 pub returns-in-Err-Limit-clause-status : goal.returns-in-Err-Limit-clause-status
@@ -80,8 +80,8 @@ returns-in-Err-Limit-clause-whole g c =
     let files = g.H.Shelf.files c.args.shelf.now in
     let name = c.args.name.now in
     let line = c.in-Err-Limit.line in
-    refused_whole files name (limit line) _ _ _ _ _
-    (subst (λ (m : Limits). ReadsObservable m files name (limit line)) c.program.ensures (rw c.in-Err-Limit.field-0-is at c.in-Err-Limit.ensures.refused))
+    refused_whole files name (past_limit line) _ _ _ _ _
+    (subst (λ (m : Limits). ReadsObservable m files name (past_limit line)) c.program.ensures (rw c.in-Err-Limit.field-0-is at c.in-Err-Limit.ensures.refused))
     (no_limit line) (subst OneOutcome c.program.ensures c.read.ensures.once)
 
 -- ---- it isn't there, couldn't be read, or memory ran out

@@ -3,7 +3,7 @@ use Rattle.std.proofs.lemmas.Result.{err_from_is_err_and}
 use Rattle.script_read.specs.ReadLines.{command_of}
 use Rattle.script_read.specs.declared.commands.ScriptError.TheVariants.{Limit}
 use Rattle.std.specs.Prelude.{codes}
-use Rattle.triples_read.specs.Lines.{Spells as SpellsTriple}
+use Rattle.triples_read.specs.Lines.{SpellsTriple}
 use Rattle.script_read.proofs.CommandLemmas.{failed_node, failed_relabel, failed_triple, insert_bad, delete_bad, opens_insert, opens_delete, failed_nodes, failed_path, failed_branch, failed_why, failed_check, node_free, relabel_free, triple_free, free}
 use Rattle.script_read.proofs.CommandLaws.{relabel_once, triple_once, path_once, branch_once, why_once, check_once, whole_once}
 use Rattle.script_read.proofs.commands.read.Goals as goal

@@ -1,8 +1,8 @@
 use Rattle.std.proofs.Common.{◌∙◌, ap}
-use Rattle.label_graph.specs.ReservedGraphs.{has_text}
+use Rattle.graph_spec.specs.Graphs.{is_seen}
 use Rattle.test_graphs.proofs.LastLabels.{has_last}
 use Rattle.test_graphs.proofs.tests.reserve_node_first.Goals as goal
 
 pub returns-clause-label : goal.returns-clause-label
 returns-clause-label c =
-    ap (λ r. has_text r.relabels c.args.label.now) c.in_ok-reserve_label.ensures.ok ∙ has_last c.reserve_node.new.self.reserved.relabels c.args.label.now
+    ap (λ r. is_seen r.relabels c.args.label.now) c.in_ok-reserve_label.ensures.ok ∙ has_last c.reserve_node.new.self.reserved.relabels c.args.label.now

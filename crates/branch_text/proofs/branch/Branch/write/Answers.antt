@@ -1,7 +1,7 @@
 use Rattle.std.proofs.Common.{◌++◌, ◌∙◌, sym, subst, ap}
 use Rattle.std.specs.Prelude.{IsTrue}
 use Rattle.branch_spec.specs.Spelling.{canonical}
-use Rattle.branch_text.specs.Parsed.{Spells, has_text}
+use Rattle.branch_text.specs.Parsed.{SpellsBranch, has_text}
 use Rattle.branch_text.specs.BranchTexts.{branch_text}
 use Rattle.branch_text.proofs.Canon.{canonical_is}
 use Rattle.branch_text.proofs.BranchRoundTrips.{again}
@@ -15,4 +15,4 @@ returns-clause-canonical c =
 pub returns-clause-again : goal.returns-clause-again
 returns-clause-again c =
     let text = subst (λ q. IsTrue (has_text q)) (sym c.self.view_is) c.requires in
-    subst (λ t. Spells t c.args.self.now) (sym (returns-clause-canonical c)) (subst (λ q. Spells (canonical q) q) c.self.view_is (again c.self.inside.tree c.self.invariant.0 text))
+    subst (λ t. SpellsBranch t c.args.self.now) (sym (returns-clause-canonical c)) (subst (λ q. SpellsBranch (canonical q) q) c.self.view_is (again c.self.inside.tree c.self.invariant.0 text))

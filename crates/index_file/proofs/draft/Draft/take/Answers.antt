@@ -5,8 +5,8 @@ use Rattle.index_file.proofs.draft.Draft.take.Goals as goal
 pub take_title-requires : goal.take_title-requires
 take_title-requires c = record { due = ap (λ (r : Reading). r.due) (sym c.self.view_is) ∙ c.in-Title.is }
 
-pub take_given-requires : goal.take_given-requires
-take_given-requires c = record { due = ap (λ (r : Reading). r.due) (sym c.self.view_is) ∙ c.in-Given.is }
+pub take_allocated-requires : goal.take_allocated-requires
+take_allocated-requires c = record { due = ap (λ (r : Reading). r.due) (sym c.self.view_is) ∙ c.in-Allocated.is }
 
 pub take_behind_nodes-requires : goal.take_behind_nodes-requires
 take_behind_nodes-requires c = record { due = ap (λ (r : Reading). r.due) (sym c.self.view_is) ∙ c.in-Nodes.is }

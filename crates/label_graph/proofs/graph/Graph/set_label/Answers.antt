@@ -1,11 +1,11 @@
 use Rattle.std.proofs.Common.{subst, sym, ap, ◌∙◌, refl, map, Some, IsTrue}
 use Rattle.std.specs.Prelude.{slice_set, is_some}
 use Rattle.std.proofs.lemmas.Option.{slice_get_within}
-use Rattle.graph_spec.specs.Graphs.{is_live}
+use Rattle.graph_spec.specs.Graphs.{is_live, is_seen}
 use Rattle.change_spec.specs.Steps.{labelled}
 use Rattle.label_graph.specs.LabelTable.{entries, with_shown, renumbered, without_number}
 use Rattle.label_graph.specs.Nodes.{labels_of}
-use Rattle.label_graph.specs.ReservedGraphs.{FitsLabels, graph_by, reserved_by, has_text, without_reserved_relabel}
+use Rattle.label_graph.specs.ReservedGraphs.{FitsLabels, graph_by, reserved_by, without_reserved_relabel}
 use Rattle.label_graph.proofs.Positions.{text-at}
 use Rattle.label_graph.proofs.Additions.{live-number, sound-as}
 use Rattle.label_graph.proofs.GoneNodes.{live-shown}
@@ -18,7 +18,7 @@ unwrap-entry-requires c =
     let s = c.self.inside in
     let t = c.args.label.now in
     ap is_some c.entry.ensures
-    ∙ text-found s.labels t s.relabel_numbers.items c.self.invariant.reserved.relabels (subst (λ h. IsTrue (has_text h.reserved.relabels t)) (sym c.self.view_is) c.requires.reserved)
+    ∙ text-found s.labels t s.relabel_numbers.items c.self.invariant.reserved.relabels (subst (λ h. IsTrue (is_seen h.reserved.relabels t)) (sym c.self.view_is) c.requires.reserved)
 
 pub take_number-requires : goal.take_number-requires
 take_number-requires c =
@@ -27,7 +27,7 @@ take_number-requires c =
     let l = c.unwrap-entry.result in
     let is = text-at t (entries s.labels) l (sym c.entry.ensures ∙ c.unwrap-entry.ensures) in
     sym (number-there s.labels t l c.self.invariant.labels.once is s.relabel_numbers.items c.self.invariant.reserved.relabels)
-    ∙ subst (λ h. IsTrue (has_text h.reserved.relabels t)) (sym c.self.view_is) c.requires.reserved
+    ∙ subst (λ h. IsTrue (is_seen h.reserved.relabels t)) (sym c.self.view_is) c.requires.reserved
 
 pub show-number-requires-clause-few : goal.show-number-requires-clause-few
 show-number-requires-clause-few c =

@@ -1,6 +1,6 @@
 use Rattle.std.proofs.Common.{◌++◌, ◌∙◌, sym, subst, ap}
 use Rattle.path_spec.specs.Spelling.{canonical}
-use Rattle.path_query.specs.Parsed.{Spells}
+use Rattle.path_query.specs.Parsed.{SpellsPath}
 use Rattle.path_query.specs.PathTexts.{expr_text}
 use Rattle.path_query.proofs.Canon.{canonical_is}
 use Rattle.path_query.proofs.expr.PathExpr.write.Goals as goal
@@ -12,4 +12,4 @@ returns-clause-canonical c =
 
 pub returns-clause-again : goal.returns-clause-again
 returns-clause-again c =
-    subst (λ t. Spells t c.args.self.now) (sym (returns-clause-canonical c)) (subst (λ e. Spells (canonical e) e) c.self.view_is c.self.invariant.0)
+    subst (λ t. SpellsPath t c.args.self.now) (sym (returns-clause-canonical c)) (subst (λ e. SpellsPath (canonical e) e) c.self.view_is c.self.invariant.0)

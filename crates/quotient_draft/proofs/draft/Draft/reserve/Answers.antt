@@ -3,7 +3,7 @@ use Rattle.block_partition.specs.LabelledPartitions.{ReservedNumbers}
 use Rattle.bisim_spec.specs.IndexGraphs.{View}
 use Rattle.quotient_draft.specs.Drafts.{Drafted}
 use Rattle.quotient_draft.specs.Basis.{IsOver}
-use Rattle.quotient_draft.specs.ReservedCapacity.{HasRoomFor}
+use Rattle.quotient_draft.specs.ReservedCapacity.{HasReservedFor}
 use Rattle.quotient_draft.proofs.Settled.{from_fit, ends_below, number_below}
 use Rattle.quotient_draft.proofs.draft.Draft.reserve.Goals as goal
 
@@ -42,7 +42,7 @@ returns-clause-reserved c =
     let pairs = third.pairs ∙ second.pairs in
     let some = first.pairs in
     let len = c.len.ensures in
-    let reserved : HasRoomFor c.reserve_in.new.base d = record {
+    let reserved : HasReservedFor c.reserve_in.new.base d = record {
       nodes = λ n b e. (let below = c.past-nodes.ensures.fits n b e in omega (arith, below, list, nodes, count));
       blocks = omega (arith, blocks, further, all);
       span = λ i e h. subst (λ m. e.0 < m) (sym third.span) (number_below c.args.base.now.blocks.block_of c.args.base.now.blocks.labels d c.reserve_span.new.self.reserved.span i e o from h);
@@ -50,4 +50,4 @@ returns-clause-reserved c =
       children = third.children;
       parents = third.parents;
     } in
-    subst (HasRoomFor c.reserve_in.new.base) c.self.view_is reserved
+    subst (HasReservedFor c.reserve_in.new.base) c.self.view_is reserved

@@ -6,7 +6,7 @@ use Rattle.bisim_spec.specs.IndexGraphs.{SupportTable}
 use Rattle.quotient.specs.Quotients.{view_of}
 use Rattle.quotient_draft.specs.Drafts.{Drafted, with_moves, with_supports, settled_view}
 use Rattle.quotient_draft.specs.Basis.{IsOver}
-use Rattle.quotient_draft.specs.ReservedCapacity.{HasRoomFor}
+use Rattle.quotient_draft.specs.ReservedCapacity.{HasReservedFor}
 use Rattle.quotient_draft.specs.Retired.{IsRetired}
 use Rattle.quotient_draft.proofs.Settled.{settled_is}
 use Rattle.quotient_draft.proofs.draft.Draft.settle.Goals as goal
@@ -19,7 +19,7 @@ make_in-requires-3-clause-blocks c = λ n b e.
 
 pub make_in-requires-3-clause-nodes : goal.make_in-requires-3-clause-nodes
 make_in-requires-3-clause-nodes c = λ n b e.
-    let r = subst (HasRoomFor c.args.base.now) (sym c.self.view_is) c.requires.reserved in
+    let r = subst (HasReservedFor c.args.base.now) (sym c.self.view_is) c.requires.reserved in
     let list = ap (λ (p : Partition). length p.block_of) c.make_in-2.ensures.blocks ∙ ap (λ (bs : List (Option ℕ)). length bs) c.make_in.ensures.blocks in
     let nodes = ap (λ (p : Partition). p.reserved.nodes) c.make_in-2.ensures.blocks ∙ c.make_in.ensures.nodes in
     let below = r.nodes n b e in

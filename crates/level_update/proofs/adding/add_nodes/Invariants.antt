@@ -2,7 +2,7 @@ use Rattle.std.proofs.Common.{[], take}
 use Rattle.graph_update.specs.PendingChanges.{graph_after}
 use Rattle.ak_family.specs.LevelDrafts.{AreSameBut}
 use Rattle.level_update.specs.LevelEffects.{IsLevelOnWay}
-use Rattle.level_update.proofs.joining.join_nodes.Given as goal
+use Rattle.level_update.proofs.adding.add_nodes.Given as goal
 
 abbrev pub invariant-joins : goal.invariant-joins
 invariant-joins l = record {

@@ -1,7 +1,7 @@
 use Rattle.std.proofs.Common.{[], ◌∷◌}
 use Rattle.ak_family.specs.LevelDrafts.{labels_shown, key_shown}
 use Rattle.level_update.proofs.LoneBlocks.{lone_label}
-use Rattle.level_update.proofs.joining.lone_block.Goals as goal
+use Rattle.level_update.proofs.adding.lone_block.Goals as goal
 
 pub returns-clause-label : goal.returns-clause-label
 returns-clause-label c =

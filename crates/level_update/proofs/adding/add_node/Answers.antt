@@ -1,6 +1,6 @@
 use Rattle.std.proofs.Common.{◌∙◌}
 use Rattle.level_update.proofs.JoinedNodes.{joined_node}
-use Rattle.level_update.proofs.joining.join_node.Goals as goal
+use Rattle.level_update.proofs.adding.add_node.Goals as goal
 
 pub returns-clause-joined : goal.returns-clause-joined
 returns-clause-joined c =

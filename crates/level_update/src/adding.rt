@@ -4,7 +4,7 @@ ghost use Rattle.graph_spec.specs.Members.{at, has};
 ghost use Rattle.graph_update.specs.PendingChanges.{graph_after};
 ghost use Rattle.graph_effects.specs.Effects.{AreEffects};
 ghost use Rattle.ak_family.specs.LevelDrafts.{blocks_shown, labels_shown, support_shown, key_shown, AreOver, AreSameBut, ShowsBlock};
-ghost use Rattle.level_update.specs.LevelEffects.{KeyHasLabel, own_number, lone_nodes, AreLevelsBefore, IsDraftedBelow, IsLevelOnWay, IsNodeJoined};
+ghost use Rattle.level_update.specs.LevelEffects.{KeyHasLabel, own_number, lone_nodes, AreLevelsBefore, IsDraftedBelow, IsLevelOnWay, IsNodeAdded};
 
 use ak_family::{AkDraft, AkFamily};
 use graph_effects::Effects;
@@ -49,7 +49,7 @@ pub(crate) fn lone_block(
 }
 
 // A node comes into the block of a level whose key is the number alone.
-fn join_node(
+fn add_node(
     family: &AkFamily,
     draft: &mut AkDraft,
     i: u32,
@@ -61,7 +61,7 @@ fn join_node(
     requires level { i < length family.now }
     requires small { n < 2 ^ 31 }
     requires labelled { KeyHasLabel (key_shown family.now draft.old i) (labels_shown family.now draft.old i) (number ∷ []) label }
-    ensures joined { OnOk result (IsNodeJoined family.now i n label number draft.old draft.new) }
+    ensures joined { OnOk result (IsNodeAdded family.now i n label number draft.old draft.new) }
     ensures supports { OnOk result ((x y : ℕ) → support_shown family.now draft.new i x y ≡ support_shown family.now draft.old i x y) }
     ensures others { AreSameBut i draft.old draft.new }
 {
@@ -72,7 +72,7 @@ fn join_node(
 
 /// Puts the nodes that come into blocks of a level, each into that whose key is its label, or its block one level below,
 /// alone. None of the edges so far is at such a node, so supports stay.
-pub(crate) fn join_nodes(
+pub(crate) fn add_nodes(
     family: &AkFamily,
     draft: &mut AkDraft,
     i: u32,
@@ -93,7 +93,7 @@ pub(crate) fn join_nodes(
     'joins: for n in came {
         let label = after.label(*n);
         let number = first_number(family, draft, i, *n, label);
-        join_node(family, draft, i, *n, label, number)?;
+        add_node(family, draft, i, *n, label, number)?;
     }
     Ok(())
 }

@@ -3,7 +3,7 @@ use Rattle.std.specs.Prelude.{IsSome}
 use Rattle.graph_spec.specs.Members.{at}
 use Rattle.quotient_draft.proofs.PutLists.{put_some}
 use Rattle.one_update.proofs.IndexEffects.{node_put}
-use Rattle.one_update.proofs.joining.join_node.Goals as goal
+use Rattle.one_update.proofs.adding.add_node.Goals as goal
 
 pub put-requires-clause-block : goal.put-requires-clause-block
 put-requires-clause-block c = subst (λ (ls : List (Option ℕ)). IsSome (at ls c.in_ok-b.b)) (sym c.in_ok-b.ensures.labels) (put_some _ c.in_ok-b.b c.args.label)

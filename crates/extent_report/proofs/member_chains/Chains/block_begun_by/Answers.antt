@@ -1,7 +1,7 @@
 use Rattle.std.proofs.Common.{sym, ◌∙◌, arith}
 use Rattle.bisim_spec.proofs.Together.{block_below}
 use Rattle.extent_report.proofs.Chained.{first_member_first, first_member_not, read, same_value}
-use Rattle.extent_report.proofs.member_chains.Chains.led.Goals as goal
+use Rattle.extent_report.proofs.member_chains.Chains.block_begun_by.Goals as goal
 
 pub returns-then-eq-clause-is_first_member : goal.returns-then-eq-clause-is_first_member
 returns-then-eq-clause-is_first_member c =

@@ -3,7 +3,7 @@ use Rattle.index_file.specs.declared.due.Due.TheVariants.{Nodes}
 use Rattle.index_file.specs.Readings.{Reading}
 use Rattle.index_file.proofs.StepLaws.{wrong_given}
 use Rattle.index_file.proofs.DraftLaws.{given_taken, given_over, given_wrong, draft_given}
-use Rattle.index_file.proofs.draft.Draft.take_given.Goals as goal
+use Rattle.index_file.proofs.draft.Draft.take_allocated.Goals as goal
 
 pub returns-in_default-clause-wrong : goal.returns-in_default-clause-wrong
 returns-in_default-clause-wrong c = λ _.

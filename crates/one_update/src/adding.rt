@@ -13,7 +13,7 @@ use quotient::Summary;
 use quotient_draft::Draft;
 
 // A node comes into a further block with its label.
-fn join_node(base: &Summary, draft: &mut Draft, n: NodeId, label: u32) -> Result<(), Memory>
+fn add_node(base: &Summary, draft: &mut Draft, n: NodeId, label: u32) -> Result<(), Memory>
     requires over { IsOver base.now.blocks.block_of base.now.blocks.labels draft.old }
     requires small { n < 2 ^ 31 }
     ensures joined { OnOk result (IsNodePut base.now n label draft.old draft.new) }
@@ -28,7 +28,7 @@ fn join_node(base: &Summary, draft: &mut Draft, n: NodeId, label: u32) -> Result
 
 /// Puts each node that comes into a further block with its label. None of the edges so far is at such a node, so supports
 /// stay. `Memory` also comes past 2^31 blocks.
-pub(crate) fn join_nodes(
+pub(crate) fn add_nodes(
     base: &Summary,
     draft: &mut Draft,
     after: &After<'_>,
@@ -44,7 +44,7 @@ pub(crate) fn join_nodes(
     let came = effects.came();
     'joins: for n in came {
         let label = after.label(*n);
-        join_node(base, draft, *n, label)?;
+        add_node(base, draft, *n, label)?;
     }
     Ok(())
 }
