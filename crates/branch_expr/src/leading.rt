@@ -9,7 +9,7 @@ ghost use Rattle.branch_expr.specs.Images.{IsMember, HasJust, Gains, Loses, HasP
 
 use crate::axis::Axis;
 use crate::mirror::Mirror;
-use crate::runs::{RUN, end_of_run, note_passing};
+use crate::runs::{end_of_run, note_passing};
 use label_graph::Digraph;
 use path_automaton::{Program, State, search};
 use px_base::{Bits, Memory};
@@ -70,7 +70,7 @@ fn insert_children_of<G: Digraph>(g: &G, nodes: &[u32], set: &mut Bits)
 
 /// The children of the nodes whose label passes: any one, or the one with the number. They are a set of numbers below
 /// the graph's size. `Memory` comes only where memory runs out. O(n + e) for n node numbers and the e edges that lead
-/// from those nodes; each node is read once. It takes a byte for each number, and 4 KiB.
+/// from those nodes; each node is read once. It takes a byte for each number.
 pub(crate) fn passing_children<G: Digraph>(
     alloc: Global,
     g: &G,
@@ -80,7 +80,7 @@ pub(crate) fn passing_children<G: Digraph>(
     ensures image { IfOk result (λ b. HasJust b.members (HasParent (G.edge g.now) (Passes (G.label_at g.now) test))) }
 {
     let mut image = Bits::new(alloc, g.size())?;
-    let mut noted = vec![in alloc; 0; RUN as usize]?;
+    let mut noted = [0; 1024];
     let mut from = 0;
     while from < g.size() {
         let to = end_of_run(from, g.size());
@@ -117,19 +117,13 @@ fn remove_children_of<G: Digraph>(g: &G, nodes: &[u32], set: &mut Bits)
 }
 
 /// Takes out of a set of numbers below the graph's size the children of the nodes whose label passes: any label, or the
-/// one with the number. `Memory` comes only where memory runs out. O(n + e) for n node numbers and the e edges that
-/// lead from those nodes; each node is read once. It takes 4 KiB.
-pub(crate) fn remove_passing_children<G: Digraph>(
-    alloc: Global,
-    g: &G,
-    test: Option<u32>,
-    set: &mut Bits,
-) -> Result<(), Memory>
+/// one with the number. O(n + e) for n node numbers and the e edges that lead from those nodes; each node is read once.
+pub(crate) fn remove_passing_children<G: Digraph>(g: &G, test: Option<u32>, set: &mut Bits)
     requires { set.old.size ≡ G.span g.now }
     ensures size { set.new.size ≡ set.old.size }
-    ensures members { OnOk result (Loses set.old.members set.new.members (HasParent (G.edge g.now) (Passes (G.label_at g.now) test))) }
+    ensures members { Loses set.old.members set.new.members (HasParent (G.edge g.now) (Passes (G.label_at g.now) test)) }
 {
-    let mut noted = vec![in alloc; 0; RUN as usize]?;
+    let mut noted = [0; 1024];
     let mut from = 0;
     while from < g.size() {
         let to = end_of_run(from, g.size());
@@ -137,7 +131,6 @@ pub(crate) fn remove_passing_children<G: Digraph>(
         remove_children_of(g, &noted[..count], set);
         from = to;
     }
-    Ok(())
 }
 
 /// What one or more edges lead to from a member.

@@ -60,7 +60,10 @@ fn keep_label<G: Digraph>(
     ensures keeps { OnOk result (Keeps set.old.members set.new.members (Passes (shape_through G.Digraph labels.now g.now) (tree.label text.now))) }
 {
     match labels.find(text) {
-        Some(label) => keep_labelled(alloc, g, label, set),
+        Some(label) => {
+            keep_labelled(g, label, set);
+            Ok(())
+        }
         None => {
             let none = Bits::new(alloc, 0)?;
             intersect(set, &none);
@@ -158,40 +161,27 @@ pub(crate) fn axis_leading<G: Digraph>(
 }
 
 /// Takes out the members to which an edge leads from a node with the label.
-fn deny_label<G: Digraph>(
-    alloc: Global,
-    g: &G,
-    labels: &Labels,
-    text: &Text,
-    set: &mut Bits,
-) -> Result<(), Memory>
+fn deny_label<G: Digraph>(g: &G, labels: &Labels, text: &Text, set: &mut Bits)
     requires labelled { (n l : ℕ) → G.label_at g.now n ≡ Some l → l < length labels.now.texts }
     requires size { set.old.size ≡ G.span g.now }
-    ensures size { OnOk result (set.new.size ≡ set.old.size) }
-    ensures spared { OnOk result (Loses set.old.members set.new.members (HasPassingParent (shape_through G.Digraph labels.now g.now) (tree.label text.now))) }
+    ensures size { set.new.size ≡ set.old.size }
+    ensures spared { Loses set.old.members set.new.members (HasPassingParent (shape_through G.Digraph labels.now g.now) (tree.label text.now)) }
 {
-    match labels.find(text) {
-        Some(label) => remove_passing_children(alloc, g, Some(label), set),
-        None => Ok(()),
+    if let Some(label) = labels.find(text) {
+        remove_passing_children(g, Some(label), set);
     }
 }
 
 /// Takes out the members to which an edge leads from a node whose label passes.
-fn deny_test<G: Digraph>(
-    alloc: Global,
-    g: &G,
-    labels: &Labels,
-    test: &Test,
-    set: &mut Bits,
-) -> Result<(), Memory>
+fn deny_test<G: Digraph>(g: &G, labels: &Labels, test: &Test, set: &mut Bits)
     requires labelled { (n l : ℕ) → G.label_at g.now n ≡ Some l → l < length labels.now.texts }
     requires size { set.old.size ≡ G.span g.now }
-    ensures size { OnOk result (set.new.size ≡ set.old.size) }
-    ensures spared { OnOk result (Loses set.old.members set.new.members (HasPassingParent (shape_through G.Digraph labels.now g.now) (test_of test.now))) }
+    ensures size { set.new.size ≡ set.old.size }
+    ensures spared { Loses set.old.members set.new.members (HasPassingParent (shape_through G.Digraph labels.now g.now) (test_of test.now)) }
 {
     match test {
-        Test::Any => remove_passing_children(alloc, g, None, set),
-        Test::Label(text) => deny_label(alloc, g, labels, text, set),
+        Test::Any => remove_passing_children(g, None, set),
+        Test::Label(text) => deny_label(g, labels, text, set),
     }
 }
 
@@ -228,8 +218,14 @@ pub(crate) fn deny_axis<G: Digraph>(
     ensures spared { OnOk result (Loses set.old.members set.new.members (HasPassingSource (shape_through G.Digraph labels.now g.now) axis (test_of test.now))) }
 {
     match axis {
-        Axis::Child => deny_test(alloc, g, labels, test, set),
-        Axis::Parent => deny_test(alloc, &Mirror { graph: g }, labels, test, set),
+        Axis::Child => {
+            deny_test(g, labels, test, set);
+            Ok(())
+        }
+        Axis::Parent => {
+            deny_test(&Mirror { graph: g }, labels, test, set);
+            Ok(())
+        }
         _ => deny_far(alloc, g, labels, axis, test, set),
     }
 }

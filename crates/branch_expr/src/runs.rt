@@ -17,16 +17,17 @@ pub(crate) fn is_passing<G: Digraph>(g: &G, test: Option<u32>, n: NodeId) -> boo
 }
 
 /// How many nodes are tested before those that pass are used: few enough for their numbers to stay in the nearest
-/// memory.
+/// memory. They are noted in an array, which no other memory overlaps, so that what a test reads of the graph stays in
+/// registers.
 pub(crate) const RUN: u32 = 1024;
 
 /// Puts a number behind the first `count` of a list, and answers how many there are then: one more if it is wanted.
 #[inline(always)]
-fn note_if(noted: &mut Vec<u32>, count: usize, n: NodeId, wanted: bool) -> usize
-    requires { count < length noted.old.items }
-    ensures length { length noted.new.items ≡ length noted.old.items }
+fn note_if(noted: &mut [u32; 1024], count: usize, n: NodeId, wanted: bool) -> usize
+    requires { count < length noted.old }
+    ensures length { length noted.new ≡ length noted.old }
     ensures within { result ≤ count + 1 }
-    ensures noted { Gains (take count noted.old.items) (take result noted.new.items) (λ m. (m ≡ n) × IsTrue wanted) }
+    ensures noted { Gains (take count noted.old) (take result noted.new) (λ m. (m ≡ n) × IsTrue wanted) }
 {
     noted[count] = n;
     if wanted { count + 1 } else { count }
@@ -40,13 +41,13 @@ pub(crate) fn note_passing<G: Digraph>(
     test: Option<u32>,
     from: NodeId,
     to: NodeId,
-    noted: &mut Vec<u32>,
+    noted: &mut [u32; 1024],
 ) -> usize
     requires order { from ≤ to }
-    requires room { to ≤ from + length noted.old.items }
-    ensures length { length noted.new.items ≡ length noted.old.items }
-    ensures within { result ≤ length noted.new.items }
-    ensures noted { HasJust (take result noted.new.items) (λ m. (from ≤ m) × (m < to) × Passes (G.label_at g.now) test m) }
+    requires room { to ≤ from + length noted.old }
+    ensures length { length noted.new ≡ length noted.old }
+    ensures within { result ≤ length noted.new }
+    ensures noted { HasJust (take result noted.new) (λ m. (from ≤ m) × (m < to) × Passes (G.label_at g.now) test m) }
 {
     let mut count = 0;
     for n in from..to {
@@ -58,12 +59,12 @@ pub(crate) fn note_passing<G: Digraph>(
 /// Notes the members of a set from `from` on and below `to`, and tells how many they are. It has no branch that depends on
 /// whether a number is one.
 #[inline(always)]
-pub(crate) fn note_members(set: &Bits, from: u32, to: u32, noted: &mut Vec<u32>) -> usize
+pub(crate) fn note_members(set: &Bits, from: u32, to: u32, noted: &mut [u32; 1024]) -> usize
     requires order { from ≤ to }
-    requires room { to ≤ from + length noted.old.items }
-    ensures length { length noted.new.items ≡ length noted.old.items }
-    ensures within { result ≤ length noted.new.items }
-    ensures noted { HasJust (take result noted.new.items) (λ m. (from ≤ m) × (m < to) × IsMember set.now.members m) }
+    requires room { to ≤ from + length noted.old }
+    ensures length { length noted.new ≡ length noted.old }
+    ensures within { result ≤ length noted.new }
+    ensures noted { HasJust (take result noted.new) (λ m. (from ≤ m) × (m < to) × IsMember set.now.members m) }
 {
     let mut count = 0;
     for n in from..to {

@@ -4,7 +4,7 @@ ghost use Rattle.graph_spec.specs.Members.{has};
 ghost use Rattle.path_automaton.specs.NewMarks.{Passes};
 ghost use Rattle.branch_expr.specs.Images.{IsMember, HasJust, Gains, Keeps, Loses};
 
-use crate::runs::{RUN, end_of_run, is_passing, note_members, note_passing};
+use crate::runs::{end_of_run, is_passing, note_members, note_passing};
 use label_graph::Digraph;
 use px_base::{Bits, Memory, NodeId};
 use std::alloc::Global;
@@ -76,13 +76,13 @@ fn insert_all(set: &mut Bits, list: &[u32])
 }
 
 /// The nodes whose label has the number, or all nodes where none is given. They are a set of numbers below the graph's size.
-/// `Memory` comes only where memory runs out. O(n) for n node numbers; it takes a byte for each, and 4 KiB.
+/// `Memory` comes only where memory runs out. O(n) for n node numbers; it takes a byte for each.
 pub(crate) fn passing<G: Digraph>(alloc: Global, g: &G, test: Option<u32>) -> Result<Bits, Memory>
     ensures size { IfOk result (λ s. s.size ≡ G.span g.now) }
     ensures members { IfOk result (λ s. HasJust s.members (Passes (G.label_at g.now) test)) }
 {
     let mut set = Bits::new(alloc, g.size())?;
-    let mut noted = vec![in alloc; 0; RUN as usize]?;
+    let mut noted = [0; 1024];
     let mut from = 0;
     while from < g.size() {
         let to = end_of_run(from, g.size());
@@ -104,18 +104,13 @@ fn keep_listed<G: Digraph>(g: &G, label: u32, list: &[u32], set: &mut Bits)
     }
 }
 
-/// Keeps the members of a set that are nodes whose label has the number. `Memory` comes only where memory runs out. O(n) for a
-/// set of numbers below n, and each member's label is read once; it takes 4 KiB.
-pub(crate) fn keep_labelled<G: Digraph>(
-    alloc: Global,
-    g: &G,
-    label: u32,
-    set: &mut Bits,
-) -> Result<(), Memory>
+/// Keeps the members of a set that are nodes whose label has the number. O(n) for a set of numbers below n, and each member's
+/// label is read once; no memory.
+pub(crate) fn keep_labelled<G: Digraph>(g: &G, label: u32, set: &mut Bits)
     ensures size { set.new.size ≡ set.old.size }
-    ensures members { OnOk result (Keeps set.old.members set.new.members (λ n. G.label_at g.now n ≡ Some label)) }
+    ensures members { Keeps set.old.members set.new.members (λ n. G.label_at g.now n ≡ Some label) }
 {
-    let mut noted = vec![in alloc; 0; RUN as usize]?;
+    let mut noted = [0; 1024];
     let mut from = 0;
     while from < set.size() {
         let to = end_of_run(from, set.size());
@@ -123,5 +118,4 @@ pub(crate) fn keep_labelled<G: Digraph>(
         keep_listed(g, label, &noted[..count], set);
         from = to;
     }
-    Ok(())
 }

@@ -6,7 +6,7 @@ use Rattle.branch_expr.proofs.leading.remove_passing_children.Given as goal
 abbrev pub invariant-loop-from : goal.invariant-loop-from
 invariant-loop-from g l = record {
   size : l.set.size ≡ l.initial.set.size;
-  length : length l.noted.items ≡ 1024;
+  length : length l.noted ≡ 1024;
   within : l.from ≤ g.G.Digraph.span l.g;
   so_far : (c : ℕ) → IsTrue (has l.set.members c) ↔ (IsTrue (has l.initial.set.members c) × (((v : ℕ) × (v < l.from) × Passes (g.G.Digraph.label_at l.g) l.test v × IsTrue (g.G.Digraph.edge l.g v c)) → ⊥));
 }

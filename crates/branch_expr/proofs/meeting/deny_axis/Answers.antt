@@ -1,5 +1,4 @@
 use Rattle.std.proofs.Common.{◌↔◌, ℕ, IsTrue}
-use Rattle.std.proofs.lemmas.Result.{IfOk-weaker}
 use Rattle.graph_spec.specs.Members.{has}
 use Rattle.graph_spec.specs.Shapes.{shape_by}
 use Rattle.branch_spec.specs.BranchAnswers.{Passes}
@@ -20,9 +19,9 @@ returns-in-Parent-clause-spared g c =
     let test = test_of c.args.test.now in
     let old = c.args.set.now.members in
     let new = c.deny_test-in-Parent.new.set.members in
-    rw c.in-Parent.is (IfOk-weaker c.deny_test-in-Parent.result (λ u. (x : ℕ) → IsTrue (has new x) ↔ (IsTrue (has old x) × (((v : ℕ) × Passes (shape_by texts size label_at back) test v × IsTrue (back v x)) → ⊥))) _
-    (λ u h x. (
+    let h : (x : ℕ) → IsTrue (has new x) ↔ (IsTrue (has old x) × (((v : ℕ) × Passes (shape_by texts size label_at back) test v × IsTrue (back v x)) → ⊥)) = c.deny_test-in-Parent.ensures.spared in
+    rw c.in-Parent.is
+    (λ x. (
       λ m. let p = (h x).0 m in (p.0, λ led. p.1 (led.0, passes_by texts size label_at edge back test led.0 led.1, led.2)),
       λ p. (h x).1 (p.0, λ led. p.1 (led.0, passes_by texts size label_at back edge test led.0 led.1, led.2)),
     ))
-    c.deny_test-in-Parent.ensures.spared)

@@ -5,7 +5,7 @@ use Rattle.branch_expr.proofs.runs.note_passing.Given as goal
 
 abbrev pub invariant-loop-n : goal.invariant-loop-n
 invariant-loop-n g l = record {
-  length : length l.noted.items ≡ length l.initial.noted.items;
+  length : length l.noted ≡ length l.initial.noted;
   within : l.from + l.count ≤ l.n;
-  so_far : (m : ℕ) → IsTrue (has (take l.count l.noted.items) m) ↔ ((l.from ≤ m) × (m < l.n) × Passes (g.G.Digraph.label_at l.g) l.test m);
+  so_far : (m : ℕ) → IsTrue (has (take l.count l.noted) m) ↔ ((l.from ≤ m) × (m < l.n) × Passes (g.G.Digraph.label_at l.g) l.test m);
 }

@@ -1,13 +1,12 @@
-use Rattle.std.proofs.Common.{◌≡◌, ◌∙◌, ℕ, sym, subst, arith, inl, inr, take, Some, IsTrue}
-use Rattle.graph_spec.specs.Members.{has}
-use Rattle.branch_expr.proofs.Taken.{OfRun, filtered_run}
+use Rattle.std.proofs.Common.{◌≡◌, ◌∙◌, ℕ, arith, inl, inr, Some}
+use Rattle.branch_expr.proofs.Taken.{filtered_run}
 use Rattle.branch_expr.proofs.sets.keep_labelled.Goals as goal
 
 pub keep_listed-requires : goal.keep_listed-requires
 keep_listed-requires g c n h =
     let now = c.loop-from.set.members in
     let count = c.note_members-count.result in
-    let run = subst (λ xs. OfRun (λ m. IsTrue (has now m)) (take count xs) c.loop-from.from c.end_of_run-to.result) (sym c.deref.ensures.value) c.note_members-count.ensures.noted in
+    let run = c.note_members-count.ensures.noted in
     let below = ((run n).0 h).1 in
     let within = c.end_of_run-to.ensures.within in
     let size = c.size-in-loop-from.ensures.size in
@@ -20,7 +19,7 @@ loop-from-preserved g c =
     let count = c.note_members-count.result in
     let from = c.loop-from.from in
     let to = c.end_of_run-to.result in
-    let run = subst (λ xs. OfRun (λ m. IsTrue (has now m)) (take count xs) from to) (sym c.deref.ensures.value) c.note_members-count.ensures.noted in
+    let run = c.note_members-count.ensures.noted in
     let size = c.size-in-loop-from.ensures.size in
     let within = c.end_of_run-to.ensures.within in
     let kept = c.keep_listed.ensures.size in
@@ -28,7 +27,7 @@ loop-from-preserved g c =
       size = c.keep_listed.ensures.size ∙ c.loop-from.invariant.size;
       length = c.note_members-count.ensures.length ∙ c.loop-from.invariant.length;
       within = omega (arith, size, within, kept);
-      so_far = filtered_run P c.args.set.now.members now c.keep_listed.new.set.members (take count c.deref.result.now) from to c.end_of_run-to.ensures.more run
+      so_far = filtered_run P c.args.set.now.members now c.keep_listed.new.set.members _ from to c.end_of_run-to.ensures.more run
           c.loop-from.invariant.so_far c.keep_listed.ensures.members;
     }
 

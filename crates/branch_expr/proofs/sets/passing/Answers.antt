@@ -1,6 +1,6 @@
-use Rattle.std.proofs.Common.{◌∙◌, sym, subst, arith, take}
+use Rattle.std.proofs.Common.{◌∙◌, arith}
 use Rattle.path_automaton.specs.NewMarks.{Passes}
-use Rattle.branch_expr.proofs.Taken.{OfRun, put_run, passing_node}
+use Rattle.branch_expr.proofs.Taken.{put_run, passing_node}
 use Rattle.branch_expr.proofs.sets.passing.Goals as goal
 
 pub loop-from-preserved : goal.loop-from-preserved
@@ -9,14 +9,14 @@ loop-from-preserved g c =
     let count = c.note_passing-count.result in
     let from = c.loop-from.from in
     let to = c.end_of_run-to.result in
-    let run = subst (λ xs. OfRun P (take count xs) from to) (sym c.deref.ensures.value) c.note_passing-count.ensures.noted in
+    let run = c.note_passing-count.ensures.noted in
     let size = c.size-in-loop-from-2.ensures in
     let within = c.end_of_run-to.ensures.within in
     record {
       size = c.insert_all.ensures.size ∙ c.loop-from.invariant.size;
       length = c.note_passing-count.ensures.length ∙ c.loop-from.invariant.length;
       within = omega (arith, size, within);
-      so_far = put_run P c.loop-from.set.members c.insert_all.new.set.members (take count c.deref.result.now) from to c.end_of_run-to.ensures.more run
+      so_far = put_run P c.loop-from.set.members c.insert_all.new.set.members _ from to c.end_of_run-to.ensures.more run
           c.loop-from.invariant.so_far c.insert_all.ensures.members;
     }
 
