@@ -36,24 +36,24 @@ grouped n k more =
     four : (a b c d e : List ℕ) → a ++ b ++ c ++ d ++ e ≡ a ++ (b ++ (c ++ (d ++ e)))
     four a b c d e = append_assoc (a ++ b ++ c) d e ∙ append_assoc (a ++ b) c (d ++ e) ∙ append_assoc a b (c ++ (d ++ e))
 
-edges_leads : (k m : ℕ) (allocated : List (Option (List ℕ))) → m < 2 ^ 64 → Leads (count_line (codes "edges ") m) (nodes_read k 0 allocated) (edges_read k allocated m [])
-edges_leads k m allocated h =
-    leads_one (codes "edges " ++ decimal m) (edges m) (nodes_read k 0 allocated) (edges_read k allocated m [])
+edges_leads : (k m : ℕ) (labels : List (Option (List ℕ))) → m < 2 ^ 64 → Leads (count_line (codes "edges ") m) (nodes_read k 0 labels) (edges_read k labels m [])
+edges_leads k m labels h =
+    leads_one (codes "edges " ++ decimal m) (edges m) (nodes_read k 0 labels) (edges_read k labels m [])
     (uncut_both (codes "edges ") (decimal m) (uncut_above (codes "edges ") refl) (uncut_decimal m h)) (decimal m, refl, number_written m h) refl
 
-views_taken : (k n : ℕ) (allocated : List (Option (List ℕ))) (pairs : List (ℕ × ℕ)) → n ≤ 20
-    → next_reading (views n) (edges_read k allocated 0 pairs) ≡ Some (views_read k allocated pairs n 0 [])
-views_taken k n allocated pairs h =
-    ap (λ m. Some (views_read k allocated pairs m 0 []))
+views_taken : (k n : ℕ) (labels : List (Option (List ℕ))) (pairs : List (ℕ × ℕ)) → n ≤ 20
+    → next_reading (views n) (edges_read k labels 0 pairs) ≡ Some (views_read k labels pairs n 0 [])
+views_taken k n labels pairs h =
+    ap (λ m. Some (views_read k labels pairs m 0 []))
     (let same : counted_views n ≡ n = ap (λ b. if b then n else 1000000000000000000) (le-leb n 1000000000000000000 (omega (arith, h))) in same)
 
-views_leads : (k n : ℕ) (allocated : List (Option (List ℕ))) (pairs : List (ℕ × ℕ)) → n ≤ 20
-    → Leads (count_line (codes "views ") n) (edges_read k allocated 0 pairs) (views_read k allocated pairs n 0 [])
-views_leads k n allocated pairs h =
+views_leads : (k n : ℕ) (labels : List (Option (List ℕ))) (pairs : List (ℕ × ℕ)) → n ≤ 20
+    → Leads (count_line (codes "views ") n) (edges_read k labels 0 pairs) (views_read k labels pairs n 0 [])
+views_leads k n labels pairs h =
     let small : n < 2 ^ 64 = omega (arith, h) in
-    leads_one (codes "views " ++ decimal n) (views n) (edges_read k allocated 0 pairs) (views_read k allocated pairs n 0 [])
+    leads_one (codes "views " ++ decimal n) (views n) (edges_read k labels 0 pairs) (views_read k labels pairs n 0 [])
     (uncut_both (codes "views ") (decimal n) (uncut_above (codes "views ") refl) (uncut_decimal n small)) (decimal n, refl, number_written n small)
-    (views_taken k n allocated pairs h)
+    (views_taken k n labels pairs h)
 
 module _ (g : Graph) (k n : ℕ) (w : IsGraph g) (few : length g.allocated ≤ 4294967295) (low : k ≤ 8) (labels : HasLabels g) where
   front_leads : Leads (codes "pathindex 1" ++ 10 ∷ codes "given " ++ decimal (length g.allocated) ++ codes " k " ++ decimal k ++ 10 ∷ node_lines g) nothing_read (nodes_read k 0 g.allocated)
