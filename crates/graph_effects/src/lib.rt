@@ -4,6 +4,7 @@
 
 mod edges;
 mod effects;
+mod lists;
 mod nodes;
 mod places;
 mod relabelling;

@@ -20,7 +20,7 @@ draft_effects-requires-clause-keyed g c =
     c.requires.fits c.k-known.ensures.keyed c.requires.supported
 
 pub draft_effects-requires-clause-ends : goal.draft_effects-requires-clause-ends
-draft_effects-requires-clause-ends g c = c.deref.ensures.value ∙ c.in_ok-ends.ensures
+draft_effects-requires-clause-ends g c = c.deref.ensures ∙ c.in_ok-ends.ensures
 
 pub returns-in_err-effects-clause-cost : goal.returns-in_err-effects-clause-cost
 returns-in_err-effects-clause-cost g c = λ k e.
@@ -38,7 +38,7 @@ returns-in_err-draft_effects-clause-cost g c = λ k e.
     change_steps c.args.sides a (record { before = c.args.graph.now.graph; change = c.args.change.now }) c.deref.result.now k c.args.steps.now c.of.new.steps c.draft_effects.new.steps
     c.new-after.ensures.pending c.new-after.ensures.after
     (λ n h. ends_are c.args.sides a.change a.before c.in_ok-effects.effects n c.in_ok-effects.ensures.effects c.in_ok-effects.ensures.targets c.in_ok-effects.ensures.ends
-    (ap (λ (xs : List ℕ). has xs n) (sym (c.deref.ensures.value ∙ c.in_ok-ends.ensures)) ∙ h))
+    (ap (λ (xs : List ℕ). has xs n) (sym (c.deref.ensures ∙ c.in_ok-ends.ensures)) ∙ h))
     c.of.ensures.cost (c.draft_effects.ensures.cost k e)
 
 pub returns-clause-shows : goal.returns-clause-shows
@@ -53,7 +53,7 @@ returns-clause-shows g c =
     c.requires.fits c.k-known.ensures.keyed c.requires.supported in
     shows_family c.args.sides (has c.deref.result.now) a.before (graph_after a) c.args.family.now c.draft_effects.new.draft
     (effects_moved c.args.sides a.before (graph_after a) c.in_ok-effects.effects c.deref.result.now c.args.family.now c.draft_effects.new.draft c.in_ok-effects.ensures.effects
-    (c.deref.ensures.value ∙ c.in_ok-ends.ensures) before keyed c.in_ok-draft_effects.ensures.moved)
+    (c.deref.ensures ∙ c.in_ok-ends.ensures) before keyed c.in_ok-draft_effects.ensures.moved)
 
 pub returns-clause-keys : goal.returns-clause-keys
 returns-clause-keys g c =
@@ -67,7 +67,7 @@ returns-clause-keys g c =
     c.requires.fits c.k-known.ensures.keyed c.requires.supported in
     shows_keys c.args.sides (has c.deref.result.now) a.before (graph_after a) c.args.family.now c.draft_effects.new.draft
     (effects_moved c.args.sides a.before (graph_after a) c.in_ok-effects.effects c.deref.result.now c.args.family.now c.draft_effects.new.draft c.in_ok-effects.ensures.effects
-    (c.deref.ensures.value ∙ c.in_ok-ends.ensures) before keyed c.in_ok-draft_effects.ensures.moved)
+    (c.deref.ensures ∙ c.in_ok-ends.ensures) before keyed c.in_ok-draft_effects.ensures.moved)
 
 pub returns-clause-fits : goal.returns-clause-fits
 returns-clause-fits g c =
@@ -82,7 +82,7 @@ returns-clause-fits g c =
     subst (λ (p : Pending). ShownFit c.args.sides (graph_after p) c.args.family.now c.draft_effects.new.draft) c.new-after.ensures.pending
     (shown_fit c.args.sides (has c.deref.result.now) a.before (graph_after a) c.args.family.now c.draft_effects.new.draft
     (effects_moved c.args.sides a.before (graph_after a) c.in_ok-effects.effects c.deref.result.now c.args.family.now c.draft_effects.new.draft c.in_ok-effects.ensures.effects
-    (c.deref.ensures.value ∙ c.in_ok-ends.ensures) before keyed c.in_ok-draft_effects.ensures.moved))
+    (c.deref.ensures ∙ c.in_ok-ends.ensures) before keyed c.in_ok-draft_effects.ensures.moved))
 
 pub returns-clause-cost : goal.returns-clause-cost
 returns-clause-cost g c = λ k e.
@@ -90,5 +90,5 @@ returns-clause-cost g c = λ k e.
     change_steps c.args.sides a (record { before = c.args.graph.now.graph; change = c.args.change.now }) c.deref.result.now k c.args.steps.now c.of.new.steps c.draft_effects.new.steps
     c.new-after.ensures.pending c.new-after.ensures.after
     (λ n h. ends_are c.args.sides a.change a.before c.in_ok-effects.effects n c.in_ok-effects.ensures.effects c.in_ok-effects.ensures.targets c.in_ok-effects.ensures.ends
-    (ap (λ (xs : List ℕ). has xs n) (sym (c.deref.ensures.value ∙ c.in_ok-ends.ensures)) ∙ h))
+    (ap (λ (xs : List ℕ). has xs n) (sym (c.deref.ensures ∙ c.in_ok-ends.ensures)) ∙ h))
     c.of.ensures.cost (c.draft_effects.ensures.cost k e)

@@ -14,7 +14,7 @@ returns-clause-effects g c =
       lost = c.in_ok-find_edges.ensures.lost;
       added = c.in_ok-find_edges.ensures.added;
       targets = targets_of (graph_after a) c.in_ok-targets.targets.items c.in_ok-came.came.items c.deref-2.result.now c.in_ok-relabelled.relabelled.items c.deref-3.result.now c.find_edges.new.lost.items
-          c.deref-4.result.now c.find_edges.new.added.items c.deref-5.result.now c.deref-2.ensures.value c.deref-3.ensures.value c.deref-4.ensures.value c.deref-5.ensures.value c.in_ok-targets.ensures;
+          c.deref-4.result.now c.find_edges.new.added.items c.deref-5.result.now c.deref-2.ensures c.deref-3.ensures c.deref-4.ensures c.deref-5.ensures c.in_ok-targets.ensures;
     })
 
 pub returns-clause-targets : goal.returns-clause-targets
@@ -27,7 +27,7 @@ returns-clause-targets g c = λ n h.
       lost = c.in_ok-find_edges.ensures.lost;
       added = c.in_ok-find_edges.ensures.added;
       targets = targets_of (graph_after a) c.in_ok-targets.targets.items c.in_ok-came.came.items c.deref-2.result.now c.in_ok-relabelled.relabelled.items c.deref-3.result.now c.find_edges.new.lost.items
-          c.deref-4.result.now c.find_edges.new.added.items c.deref-5.result.now c.deref-2.ensures.value c.deref-3.ensures.value c.deref-4.ensures.value c.deref-5.ensures.value c.in_ok-targets.ensures;
+          c.deref-4.result.now c.find_edges.new.added.items c.deref-5.result.now c.deref-2.ensures c.deref-3.ensures c.deref-4.ensures c.deref-5.ensures c.in_ok-targets.ensures;
     }) h
 
 pub returns-clause-ends : goal.returns-clause-ends
@@ -40,5 +40,5 @@ returns-clause-ends g c = λ n h.
       lost = c.in_ok-find_edges.ensures.lost;
       added = c.in_ok-find_edges.ensures.added;
       targets = targets_of (graph_after a) c.in_ok-targets.targets.items c.in_ok-came.came.items c.deref-2.result.now c.in_ok-relabelled.relabelled.items c.deref-3.result.now c.find_edges.new.lost.items
-          c.deref-4.result.now c.find_edges.new.added.items c.deref-5.result.now c.deref-2.ensures.value c.deref-3.ensures.value c.deref-4.ensures.value c.deref-5.ensures.value c.in_ok-targets.ensures;
+          c.deref-4.result.now c.find_edges.new.added.items c.deref-5.result.now c.deref-2.ensures c.deref-3.ensures c.deref-4.ensures c.deref-5.ensures c.in_ok-targets.ensures;
     }) h
