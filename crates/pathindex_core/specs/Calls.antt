@@ -65,7 +65,7 @@ pub record IsListed (e f : EngineSeen) (via : Via) (result : Result (List ℕ) A
   pub others : via ≢ Fb → f.boxes ≡ e.boxes
   -- the whole graph is read at most once
   pub cost : after ≤ counting_view before (graph_in e.opened)
-  -- nothing of it is read, where it isn't the forward and backward index that is listed
+  -- nothing of it is read if another index is listed
   pub free : via ≢ Fb → after ≡ before
   -- nor where its view is computed already, or isn't kept
   pub still : IsFbComputed e.boxes → after ≡ before
@@ -87,11 +87,11 @@ pub record IsReadied (e f : EngineSeen) (via : Via) (result : Result (Unit {0}) 
   pub there : OnOk result (IsSome (via_view f.boxes via))
   -- `NoIndex` comes exactly where the index isn't kept
   pub no_index : (result ≡ Err NoIndex) ↔ (is_kept (kept_in e) via ≡ false)
-  -- where it isn't the forward and backward index that is asked for, every index stays as it is
+  -- if another index is asked for, every index stays
   pub others : via ≢ Fb → f.boxes ≡ e.boxes
   -- the whole graph is read at most once
   pub cost : after ≤ counting_view before (graph_in e.opened)
-  -- nothing of it is read, where it isn't the forward and backward index that is asked for
+  -- nothing of it is read if another index is asked for
   pub free : via ≢ Fb → after ≡ before
   -- nor where its view is computed already, or isn't kept
   pub still : IsFbComputed e.boxes → after ≡ before

@@ -280,7 +280,7 @@ impl<B: PathIndex> Engine<B> {
     }
 
     /// The size of the graph and of each index that is kept, in the order of `Via::nth`. The view of the forward and
-    /// backward index is computed first, if the index is kept and it isn't: that takes what `FbIndex` takes, and reads
+    /// backward index is computed first, if the index is kept and its view is missing: that takes what `FbIndex` takes, and reads
     /// the whole graph once. Else nothing of the graph is read. `Memory` leaves the graph and each view that is
     /// computed. O(k) for levels up to k if nothing is computed; it takes the memory of the text.
     pub fn sizes<L: Ledger>(&mut self, alloc: Global, steps: &mut Steps<L>) -> Result<Text, Memory>

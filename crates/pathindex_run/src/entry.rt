@@ -55,8 +55,8 @@ use triple_names::Names;
 /// | 8 | a view of the index file doesn't fit, and `view` with the index of the first such view is written |
 ///
 /// If well-formed words name a script of an observable shelf, it and the graph file, if any, are there, that file loads, no
-/// line of the script is bad, no call fails and neither count of failed calls is full, the status is 0, 1 or 7. With a seed
-/// it is so if no write fails and the sink's count isn't full. If an observable shelf has the index file that is to be
+/// line of the script is bad, no call fails and neither count of failed calls is full, the status is 0, 1 or 7. The same
+/// holds with a seed if no write fails and the sink's count isn't full. If an observable shelf has the index file that is to be
 /// checked, it is spelled and within limits, no call fails and neither count is full, the status is 0, 8 or 7. At 5, 6 and
 /// 7 a prefix of what the run prints is written. O(b) for b bytes of both files, and what opening the engine and the
 /// commands cost (`Engine`); beside the engine it takes memory for the numbers of terms and triples (`Names`), a block of
