@@ -64,8 +64,8 @@ pub record CanRead (r : ReaderState) (is_open : Bool) : Type 0 where
   -- a file is open
   pub opened : IsTrue is_open
 
--- What became of a line. True: it was taken, and what is read of the text behind it is read of the text. False: the
--- text is over, and what comes of an end here is read of it.
+-- What became of a line. True: it was taken, and what the text behind it is read as, the whole is read as. False: the
+-- text is over, and what a file that ends here is read as, it is read as.
 abbrev pub GoesOn : Limits → Option (List ℕ) → ReadPlace → Option (List ℕ) → ReadPlace → Bool → Type 0
 GoesOn limits before p after q true = (o : ReadOutcome) → ReadsAhead limits after q o → ReadsAhead limits before p o
 GoesOn limits before p after q false = (q.reading ≡ p.reading) × (q.lines ≡ p.lines) × ((o : ReadOutcome) → EndsFile p o → ReadsAhead limits before p o)

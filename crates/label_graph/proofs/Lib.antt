@@ -1,5 +1,4 @@
 pub mod Positions
-pub mod SearchedPieces
 pub mod Tables
 pub mod ReservedLabels
 pub mod ShownLabels
@@ -8,12 +7,9 @@ pub mod ExchangedNumbers
 pub mod ReservedPairs
 pub mod PairMarks
 pub mod EdgeLists
-pub mod Exchanged
-pub mod ListWithout
 pub mod SetNodes
 pub mod GetNodes
 pub mod NodeReserves
-pub mod SegmentLemmas
 pub mod RowLemmas
 pub mod RowLabels
 pub mod RowEdges

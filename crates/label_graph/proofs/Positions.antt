@@ -1,9 +1,7 @@
 -- The first place that passes, and the text there.
-use Rattle.std.proofs.Common.{◌≡◌, ℕ, zero, suc, ◌+◌, ◌<◌, ◌≤◌, min, Bool, true, false, cond, List, [], ◌∷◌, length, take, None, Some, refl, ap, sym, ◌∙◌, arith, length-take, nat_lt, nat_eq, not, get_or}
-use Rattle.std.specs.Prelude.{position, bytes_eq, slice_get, ◌||◌}
+use Rattle.std.proofs.Common.{◌≡◌, ℕ, zero, suc, ◌+◌, ◌<◌, ◌≤◌, min, Bool, true, false, cond, List, [], ◌∷◌, length, take, None, Some, ap, sym, ◌∙◌, arith, length-take, not, get_or}
+use Rattle.std.specs.Prelude.{position, bytes_eq, slice_get}
 use Rattle.std.specs.List.{prefix_len, position_or_len, list_any, IsDistinct}
-use Rattle.std.proofs.lemmas.Bool.Decides.{nat_tests}
-use Rattle.std.proofs.lemmas.Cmp.{nat_eq_equiv}
 use Rattle.std.proofs.lemmas.List.Folds.{list_any_at}
 use Rattle.std.proofs.lemmas.List.Quantifiers.{position-Some}
 use Rattle.std.proofs.lemmas.List.Sums.{position_or_len_is}
@@ -12,6 +10,8 @@ use Rattle.std.proofs.lemmas.Slice.Eq.{bytes_eq-Decides}
 use Rattle.std.proofs.lemmas.Option.{slice_get_within, slice_get-get_or, get_or_from_slice_get}
 use Rattle.label_graph.proofs.Tables.{bytes_laws}
 use Rattle.graph_spec.proofs.ListLemmas.{found, is_found}
+use Rattle.cell_lists.proofs.Positions.{missing, is_missing}
+pub use Rattle.cell_lists.proofs.Positions.{position-none}
 
 pub prefix_len-take : {X : Type 0} (p : X → Bool) (n : ℕ) (xs : List X) → prefix_len p (take n xs) ≡ min n (prefix_len p xs)
 prefix_len-take p zero xs = omega arith
@@ -21,12 +21,6 @@ prefix_len-take p (suc n) (x ∷ xs) =
       | true ↦ omega (arith, prefix_len-take p n xs)
       | false ↦ omega arith
     ]
-
-pub missing : (k m : ℕ) → cond (nat_lt k m) (Some k) None ≡ None → m ≤ k
-missing k m e = grind (arith, nat_tests)
-
-pub is_missing : (k m : ℕ) → m ≤ k → cond (nat_lt k m) (Some k) None ≡ None
-is_missing k m h = grind (arith, nat_tests)
 
 module _ {X : Type 0} (p : X → Bool) (xs : List X) (n : ℕ) where
   pub position-take-some : (i : ℕ) → position p xs ≡ Some i → i < n → position p (take n xs) ≡ Some i
@@ -43,18 +37,6 @@ module _ {X : Type 0} (p : X → Bool) (xs : List X) (n : ℕ) where
   position-take-none e =
       let f = missing (position_or_len p xs) (length xs) e in
       is_missing _ _ (omega (arith, f, prefix_len-take (λ x. not (p x)) n xs, length-take n xs))
-
--- no place passes where none is found
-pub absent : {X : Type 0} (p : X → Bool) (xs : List X) → length xs ≤ prefix_len (λ x. not (p x)) xs → list_any p xs ≡ false
-absent p [] h = refl
-absent p (x ∷ xs) h =
-    elim (p x) as (λ b. length (x ∷ xs) ≤ cond (not b) (1 + prefix_len (λ x. not (p x)) xs) 0 → (b || list_any p xs) ≡ false) [
-      | true ↦ λ l. absurd (omega arith)
-      | false ↦ λ l. absent p xs (omega arith)
-    ] h
-
-pub position-none : {X : Type 0} (p : X → Bool) (xs : List X) → position p xs ≡ None → list_any p xs ≡ false
-position-none p xs e = absent p xs (missing (position_or_len p xs) (length xs) e)
 
 pub present : {X : Type 0} (p : X → Bool) (xs : List X) (i : ℕ) → position p xs ≡ Some i → list_any p xs ≡ true
 present p [] i e = absurd (omega (arith, (found 0 0 i e).0))
@@ -76,14 +58,4 @@ position-at texts i t d e =
     let at = position_or_len_is (bytes_eq t) texts i t (omega arith)
     (λ k h. bytes_laws.symm t (get_or texts k t) ∙ ap (bytes_eq (get_or texts k t)) (sym s) ∙ apart_from_distinct bytes_eq texts k i t d h w)
     (λ h. ap (bytes_eq t) s ∙ bytes_laws.refl t) in
-    is_found _ _ i (omega (arith, at, w)) at
-
--- and so is a number in a list of distinct numbers
-pub number-position : (xs : List ℕ) (i n : ℕ) → IsDistinct nat_eq xs → slice_get xs i ≡ Some n → position (nat_eq n) xs ≡ Some i
-number-position xs i n d e =
-    let w = slice_get_within xs i n e in
-    let s = get_or_from_slice_get xs i n n e in
-    let at = position_or_len_is (nat_eq n) xs i n (omega arith)
-    (λ k h. nat_eq_equiv.symm n (get_or xs k n) ∙ ap (nat_eq (get_or xs k n)) (sym s) ∙ apart_from_distinct nat_eq xs k i n d h w)
-    (λ h. ap (nat_eq n) s ∙ nat_eq_equiv.refl n) in
     is_found _ _ i (omega (arith, at, w)) at

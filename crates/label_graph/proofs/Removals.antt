@@ -1,7 +1,8 @@
 -- Nodes from which an edge is taken, and then what the graph lacks.
 use Rattle.std.proofs.Common.{◌≡◌, ℕ, ◌<◌, List, length, sym, ap, ◌∙◌, subst, arith, get_or, set, length-set, nat_eq, take}
 use Rattle.std.specs.List.{IsDistinct}
-use Rattle.label_graph.specs.Nodes.{Node, children_of, parents_of, IsWithout, LacksEdge}
+use Rattle.label_graph.specs.Nodes.{Node, children_of, parents_of, LacksEdge}
+use Rattle.cell_lists.specs.Segments.{IsWithout}
 use Rattle.label_graph.proofs.SetNodes.{children-at, parents-at, children-set_same, parents-set_same, children-set_other, parents-set_other, children-set_kept, parents-set_kept}
 use Rattle.label_graph.proofs.NodeReserves.{labels-both}
 

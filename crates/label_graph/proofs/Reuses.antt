@@ -5,10 +5,10 @@ use Rattle.std.proofs.lemmas.List.{get_or-set_same, get_or-set_other, length-map
 use Rattle.std.proofs.lemmas.Option.{get_or_from_slice_get}
 use Rattle.bisim_spec.specs.declared.sides.Side.{Side}
 use Rattle.bisim_spec.specs.declared.sides.Side.TheVariants.{Parents, Children}
-use Rattle.label_graph.specs.declared.segment.Segment.{Segment}
+use Rattle.cell_lists.specs.declared.segment.Segment.{Segment}
 use Rattle.label_graph.specs.declared.node.Row.{Row}
 use Rattle.label_graph.specs.Nodes.{labels_of, number_at, IsKept, IsGoneBeside, children_of, parents_of, child_reserved, parent_reserved, SameNodes}
-use Rattle.label_graph.specs.Segments.{items_in, LiesWithin, IsApart, Writes, Exchanges}
+use Rattle.cell_lists.specs.Segments.{items_in, LiesWithin, IsApart, Writes, Exchanges}
 use Rattle.label_graph.specs.NodeRows.{list_of, with_list, segments_of, AreHeld, AreRows, row_labels, node_in, nodes_in}
 use Rattle.label_graph.proofs.RowLemmas.{twice, twice-is, turned, children-list, parents-list, labels-by, set-label, rows-written}
 

@@ -3,15 +3,15 @@ use Rattle.std.proofs.Common.{◌≡◌, ℕ, ◌<◌, ◌≤◌, ◌+◌, ◌-�
 use Rattle.std.specs.Prelude.{if◌then◌else◌}
 use Rattle.std.specs.List.{IsDistinct}
 use Rattle.std.proofs.lemmas.List.{length-map}
-use Rattle.label_graph.specs.declared.segment.Segment.{Segment}
+use Rattle.cell_lists.specs.declared.segment.Segment.{Segment}
 use Rattle.label_graph.specs.declared.node.Row.{Row}
-use Rattle.label_graph.specs.Nodes.{Node, labels_of, children_of, parents_of, SameNodes, HasReserved, KeepsReserved, UsesReserved, IsWithout, LacksEdge}
-use Rattle.label_graph.specs.Segments.{items_in, LiesWithin, Writes}
+use Rattle.label_graph.specs.Nodes.{Node, labels_of, children_of, parents_of, SameNodes, HasReserved, KeepsReserved, UsesReserved, LacksEdge}
+use Rattle.cell_lists.specs.Segments.{items_in, LiesWithin, Writes, IsWithout}
 use Rattle.label_graph.specs.NodeRows.{AreHeld, AreRows, row_labels, list_in, node_in, nodes_in}
 use Rattle.label_graph.proofs.SetNodes.{edge-children, edge-parents}
 use Rattle.label_graph.proofs.NodeReserves.{IsNoLess, keeps-both, uses-both, same-set, same-both, reserved-both, child-fits, parent-fits, labels-both}
 use Rattle.label_graph.proofs.Removals.{children-once, parents-once, lacks-edge}
-use Rattle.label_graph.proofs.SegmentLemmas.{items-length}
+use Rattle.cell_lists.proofs.SegmentLemmas.{items-length}
 use Rattle.label_graph.proofs.RowLemmas.{child-within, parent-within, row-seen, below-seen, child-seen, held-child, parent-seen, held-parent, set-label, rows-written}
 
 -- the row of the children

@@ -2,10 +2,10 @@
 use Rattle.std.proofs.Common.{◌≡◌, ◌≢◌, ℕ, zero, suc, ◌+◌, ◌-◌, ◌<◌, ◌≤◌, List, [], ◌∷◌, ◌++◌, Option, None, length, take, drop, map, refl, sym, ap, ◌∙◌, subst, arith, get_or, set, length-set, length-append, nat_lt}
 use Rattle.std.specs.Prelude.{if◌then◌else◌}
 use Rattle.std.proofs.lemmas.List.{map-set, map-append, length-map}
-use Rattle.label_graph.specs.declared.segment.Segment.{Segment}
+use Rattle.cell_lists.specs.declared.segment.Segment.{Segment}
 use Rattle.label_graph.specs.declared.node.Row.{Row}
 use Rattle.label_graph.specs.Nodes.{Node, labels_of, number_at, children_of, parents_of, child_reserved, parent_reserved, KeepsReserved, SameNodes}
-use Rattle.label_graph.specs.Segments.{items_in}
+use Rattle.cell_lists.specs.Segments.{items_in}
 use Rattle.label_graph.specs.NodeRows.{AreRows, row_labels, node_in, nodes_in}
 use Rattle.label_graph.proofs.RowLemmas.{held-label, held-push, labels-by, IsNowhere}
 use Rattle.label_graph.proofs.GetNodes.{children-push, parents-push}

@@ -3,10 +3,10 @@ use Rattle.std.proofs.Common.{◌≡◌, ◌≢◌, ℕ, zero, suc, ◌*◌, ◌
 use Rattle.std.specs.Prelude.{slice_get, option_and_then}
 use Rattle.std.proofs.lemmas.List.{get_or-map, map-set, length-map}
 use Rattle.std.proofs.lemmas.Option.{slice_get-get_or}
-use Rattle.label_graph.specs.declared.segment.Segment.{Segment}
+use Rattle.cell_lists.specs.declared.segment.Segment.{Segment}
 use Rattle.label_graph.specs.declared.node.Row.{Row}
 use Rattle.label_graph.specs.Nodes.{Node, labels_of, number_at, children_of, parents_of}
-use Rattle.label_graph.specs.Segments.{items_in, LiesWithin, IsApart, Writes}
+use Rattle.cell_lists.specs.Segments.{items_in, LiesWithin, IsApart, Writes}
 use Rattle.label_graph.specs.NodeRows.{segments_of, AreHeld, AreRows, row_labels, list_in, node_in, nodes_in}
 use Rattle.label_graph.proofs.SetNodes.{children-at, parents-at}
 

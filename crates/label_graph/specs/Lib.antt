@@ -1,6 +1,5 @@
 pub mod LabelTable
 pub mod Nodes
-pub mod Segments
 pub mod NodeRows
 pub mod ReservedGraphs
 pub mod PairMarks

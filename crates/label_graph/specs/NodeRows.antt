@@ -2,10 +2,10 @@
 use Rattle.std.specs.Prelude.{◌≡◌, ◌≢◌, ◌≤◌, ℕ, List, [], ◌∷◌, Option, None, Some, length, map, slice_get}
 use Rattle.bisim_spec.specs.declared.sides.Side.{Side}
 use Rattle.bisim_spec.specs.declared.sides.Side.TheVariants.{Parents, Children}
-use Rattle.label_graph.specs.declared.segment.Segment.{Segment}
+use Rattle.cell_lists.specs.declared.segment.Segment.{Segment}
 use Rattle.label_graph.specs.declared.node.Row.{Row}
 use Rattle.label_graph.specs.Nodes.{Node, NeighbourList, number_at}
-use Rattle.label_graph.specs.Segments.{items_in, LiesWithin, IsApart}
+use Rattle.cell_lists.specs.Segments.{items_in, LiesWithin, IsApart}
 
 -- a node's list on that side
 abbrev pub list_of : Side → Row → Segment

@@ -1,10 +1,10 @@
 -- What a list of nodes stands for.
-use Rattle.std.specs.Prelude.{◌≡◌, ◌≢◌, ℕ, zero, suc, ◌+◌, ◌-◌, ◌<◌, ◌≤◌, ◌&&◌, not, List, [], ◌∷◌, ◌++◌, Option, None, IsSome, map, length, slice_get, option_and_then, nat_eq, take, if◌then◌else◌, refl}
+use Rattle.std.specs.Prelude.{◌≡◌, ◌≢◌, ℕ, zero, suc, ◌+◌, ◌-◌, ◌<◌, ◌≤◌, List, [], ◌∷◌, ◌++◌, Option, None, IsSome, map, length, slice_get, option_and_then, nat_eq, take, if◌then◌else◌, refl}
 use Rattle.std.specs.Coded.{Coded, code_by, coded×, coded_ℕ, coded_list, coded_option}
-use Rattle.std.specs.List.{IsDistinct}
 use Rattle.std.specs.FinSet as set
 use Rattle.graph_spec.specs.Graphs.{Edges}
 use Rattle.graph_spec.specs.Members.{has}
+use Rattle.cell_lists.specs.Segments.{IsWithout}
 
 -- a list of neighbours, and how many fit with no more memory
 pub record NeighbourList : Type 0 where
@@ -149,13 +149,6 @@ pub record UsesReserved (old new : List Node) (u v : ℕ) : Type 0 where
   pub child : (w : ℕ) → child_reserved old w ≤ child_reserved new w + (if nat_eq w u then 1 else 0)
   -- nor for parents, but for one less at v
   pub parent : (w : ℕ) → parent_reserved old w ≤ parent_reserved new w + (if nat_eq w v then 1 else 0)
-
--- the list has the others that it had, each once, and not that number
-pub record IsWithout (old new : List ℕ) (n : ℕ) : Type 0 where
-  -- no number stands twice
-  pub once : IsDistinct nat_eq new
-  -- the list has what it had, but for n
-  pub members : (m : ℕ) → has new m ≡ (not (nat_eq m n) && has old m)
 
 -- the nodes are the same, but that v isn't among the children of u, nor u among the parents of v
 pub record LacksEdge (shown : ℕ) (old new : List Node) (u v : ℕ) : Type 0 where

@@ -1,9 +1,9 @@
 // Gone nodes whose lists still have room.
 ghost use Rattle.std.specs.Prelude.{◌≡◌, length};
-ghost use Rattle.label_graph.specs.Segments.{items_in, LiesWithin, Writes};
+ghost use Rattle.cell_lists.specs.Segments.{items_in, LiesWithin, Writes};
 
-use crate::segment::{Segment, is_short, more_reserved, spare};
 use bisim_spec::Side;
+use cell_lists::{Segment, is_short, more_reserved, spare};
 use px_base::NodeId;
 use std::marker::Model;
 

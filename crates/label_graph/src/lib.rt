@@ -8,7 +8,6 @@ mod labels;
 mod node;
 mod numbers;
 mod pairs;
-mod segment;
 #[cfg(test)]
 mod tests;
 mod view;

@@ -6,8 +6,8 @@ ghost use Rattle.label_graph.specs.Nodes.{labels_of, number_at, children_of, par
 ghost use Rattle.label_graph.specs.NodeRows.{list_of, with_list};
 
 use crate::gone::GoneLists;
-use crate::segment::{EMPTY, Segment, exchange, is_last, items, make_place, push, take_out};
 use bisim_spec::Side;
+use cell_lists::{EMPTY, Segment, exchange, is_last, items, make_place, push, take_out};
 use px_base::{Memory, NodeId};
 use std::alloc::Global;
 use std::marker::Model;

@@ -61,7 +61,7 @@ fn add_node(
     requires level { i < length family.now }
     requires small { n < 2 ^ 31 }
     requires labelled { KeyHasLabel (key_shown family.now draft.old i) (labels_shown family.now draft.old i) (number ∷ []) label }
-    ensures joined { OnOk result (IsNodeAdded family.now i n label number draft.old draft.new) }
+    ensures added { OnOk result (IsNodeAdded family.now i n label number draft.old draft.new) }
     ensures supports { OnOk result ((x y : ℕ) → support_shown family.now draft.new i x y ≡ support_shown family.now draft.old i x y) }
     ensures others { AreSameBut i draft.old draft.new }
 {
@@ -84,7 +84,7 @@ pub(crate) fn add_nodes(
     requires below { IsDraftedBelow (lone_nodes effects.now) (graph_after after.now) family.now draft.old i }
     requires level { i < length family.now }
     requires start { IsLevelOnWay (graph_after after.now) after.now.before [] [] family.now draft.old i }
-    ensures joined { OnOk result (IsLevelOnWay (graph_after after.now) after.now.before effects.now.came [] family.now draft.new i) }
+    ensures added { OnOk result (IsLevelOnWay (graph_after after.now) after.now.before effects.now.came [] family.now draft.new i) }
     ensures others { AreSameBut i draft.old draft.new }
 {
     // Called for its contract: numbers are small.

@@ -37,7 +37,7 @@ fn relabel_node<L: Ledger>(
     requires partition { IsPartition (shape_of (graph_after after.now)) (blocks_shown family.now draft.old i) }
     requires supports { AreEdgeCounts (graph_after after.now) (blocks_shown family.now draft.old i) (support_shown family.now draft.old i) }
     requires labelled { KeyHasLabel (key_shown family.now draft.old i) (labels_shown family.now draft.old i) (number ∷ []) label }
-    ensures joined { OnOk result (IsNodeAdded family.now i n label number draft.old draft.new) }
+    ensures added { OnOk result (IsNodeAdded family.now i n label number draft.old draft.new) }
     ensures supports { OnOk result (AreEdgeCounts (graph_after after.now) (blocks_shown family.now draft.new i) (support_shown family.now draft.new i)) }
     ensures others { AreSameBut i draft.old draft.new }
     ensures cost { steps.new ≤ steps.old + move_cost after.now n }

@@ -16,7 +16,7 @@ use quotient_draft::Draft;
 fn add_node(base: &Summary, draft: &mut Draft, n: NodeId, label: u32) -> Result<(), Memory>
     requires over { IsOver base.now.blocks.block_of base.now.blocks.labels draft.old }
     requires small { n < 2 ^ 31 }
-    ensures joined { OnOk result (IsNodePut base.now n label draft.old draft.new) }
+    ensures added { OnOk result (IsNodePut base.now n label draft.old draft.new) }
 {
     if draft.blocks(base) >= 1 << 31 {
         return Err(Memory);
@@ -37,7 +37,7 @@ pub(crate) fn add_nodes(
     requires before { IsBefore after.now base.now }
     requires effects { AreEffects after.now.before (graph_after after.now) effects.now }
     requires start { NothingDrafted after.now base.now draft.old }
-    ensures joined { OnOk result (NodesHaveCome after.now effects.now base.now draft.new) }
+    ensures added { OnOk result (NodesHaveCome after.now effects.now base.now draft.new) }
 {
     // Called for its contract: numbers are small.
     let _known = after.created();

@@ -26,13 +26,17 @@ impl Model for Row {
     ghost invariant = { λ r. AreReady r.width r.words.items };
 }
 
-/// Words for so many bits, none of which is set. It stays out of the loops that mark.
+/// Makes the words of a row that has none. It stays out of the loops that mark.
 #[cold]
 #[inline(never)]
-fn new_words(alloc: Global, width: usize) -> Result<Vec<u64>, Memory>
-    ensures { IfOk result (λ words. words.items ≡ replicate (width / 64 + 1) 0) }
+fn fill_words(alloc: Global, words: &mut Vec<u64>, width: usize) -> Result<(), Memory>
+    requires { length words.old.items ≡ 0 }
+    ensures ready { OnOk result (width ≤ 64 * length words.new.items) }
+    ensures same { OnOk result ((k : ℕ) → bit_of words.new.items k ≡ bit_of words.old.items k) }
+    ensures err { OnErr result (words.new.items ≡ words.old.items) }
 {
-    Ok(vec![in alloc; 0; width / 64 + 1]?)
+    *words = vec![in alloc; 0; width / 64 + 1]?;
+    Ok(())
 }
 
 /// Makes the words of a row, where there are none.
@@ -44,7 +48,7 @@ fn make_words(alloc: Global, words: &mut Vec<u64>, width: usize) -> Result<(), M
     ensures err { OnErr result (words.new.items ≡ words.old.items) }
 {
     if words.is_empty() {
-        *words = new_words(alloc, width)?;
+        fill_words(alloc, words, width)?;
     }
     Ok(())
 }

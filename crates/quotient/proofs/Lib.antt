@@ -4,5 +4,6 @@ mod Pairs
 mod Between
 mod EdgeLists
 mod ReservedCapacity
+mod NeighbourCells
 mod Taken
 mod Edited

@@ -1,7 +1,6 @@
 -- Tables of lists, and counts of pairs.
-use Rattle.std.proofs.Common.{◌≡◌, ℕ, zero, suc, ◌<◌, List, [], ◌∷◌, ◌++◌, refl, sym, ◌∙◌, ap, length, get_or, slice_set, map as map_list}
+use Rattle.std.proofs.Common.{◌≡◌, ℕ, zero, suc, ◌<◌, List, [], ◌∷◌, ◌++◌, refl, sym, ◌∙◌, ap, length, get_or, map as map_list}
 use Rattle.std.proofs.Math.ListN.{replicate}
-use Rattle.std.proofs.lemmas.List.{map-set}
 use Rattle.std.proofs.lemmas.Option.{slice_get-map, slice_get-get_or, get_or_from_slice_get}
 use Rattle.std.specs.Prelude.{option_map, Some, None, slice_get}
 use Rattle.quotient.specs.QuotientNeighbours.{pairs_with, AreBelow, list_at}
@@ -22,11 +21,6 @@ none_list = []
 pub replicate_more : (len : ℕ) → replicate len none_list ++ none_list ∷ [] ≡ replicate (suc len) none_list
 replicate_more zero = refl
 replicate_more (suc len) = ap (λ (t : List (List ℕ)). none_list ∷ t) (replicate_more len)
-
--- a list to which one is pushed
-pub pushed_at : {X : Type 0} (f : X → List ℕ) (xs : List X) (n b : ℕ) (old new : X) → n < length xs → old ≡ get_or xs n old → f new ≡ f old ++ b ∷ []
-    → map_list f (slice_set xs n new) ≡ slice_set (map_list f xs) n (list_at (map_list f xs) n ++ b ∷ [])
-pushed_at f xs n b old new h e k = map-set f xs n new ∙ ap (slice_set (map_list f xs) n) (k ∙ ap (λ (l : List ℕ). l ++ b ∷ []) (sym (item_at f xs n old h e)))
 
 -- no pairs wait
 pub no_pairs : (pairs : List (ℕ × ℕ)) (x y : ℕ) → pairs ≡ [] → pairs_with pairs x y ≡ 0

@@ -1,20 +1,19 @@
 -- Reserved capacity in a table of lists.
-use Rattle.std.proofs.Common.{◌≡◌, ℕ, ◌+◌, ◌<◌, ◌≤◌, List, [], ◌∷◌, sym, ◌∙◌, ap, arith, inl, inr, true≢false, length, get_or, slice_set, slice_index, subst, unwrap_or, map as map_list}
+use Rattle.std.proofs.Common.{◌≡◌, ℕ, ◌+◌, ◌<◌, ◌≤◌, ◌-◌, take, List, [], ◌∷◌, sym, ◌∙◌, ap, arith, inl, inr, true≢false, length, get_or, slice_set, slice_index, subst, map as map_list}
 use Rattle.std.specs.Prelude.{option_map, Some, None, slice_get, nat_eq, swap_remove, position, IfNone, IfSome, Option, false}
 use Rattle.graph_spec.specs.Members.{has}
 use Rattle.label_graph.proofs.Positions.{position-none}
 use Rattle.std.proofs.lemmas.List.Quantifiers.{position-Some}
 use Rattle.std.proofs.lemmas.Bool.Decides.{eqb_tells}
-use Rattle.std.proofs.lemmas.List.{map-set, length-map, get_or-set_same, get_or-set_other, set-get_or}
+use Rattle.std.proofs.lemmas.List.{map-set, length-map, get_or-set_same, get_or-set_other, get_or_default}
 use Rattle.std.proofs.lemmas.List.Sorted.{IsPermutation-swap_remove}
 use Rattle.std.specs.List.Sorted.{IsPermutation}
 use Rattle.std.proofs.lemmas.Option.{slice_get-map, slice_get-get_or, slice_get_within, get_or_from_slice_get}
-use Rattle.quotient.proofs.Pairs.{item_at}
 use Rattle.quotient.specs.QuotientNeighbours.{list_at, one_if}
 use Rattle.quotient.specs.QuotientTables.{UsesOne, GivesMore}
 
 -- the number that a value of a table gives
-number_at : {X : Type 0} (f : X → ℕ) (xs : List X) (n : ℕ) (v : X) → n < length xs → v ≡ get_or xs n v → slice_index (map_list f xs) n ≡ f v
+pub number_at : {X : Type 0} (f : X → ℕ) (xs : List X) (n : ℕ) (v : X) → n < length xs → v ≡ get_or xs n v → slice_index (map_list f xs) n ≡ f v
 number_at f xs n v h e = get_or_from_slice_get (map_list f xs) n (f v) 0 (slice_get-map f xs n ∙ ap (option_map f) (slice_get-get_or xs n v h ∙ ap (λ w. Some w) (sym e)))
 
 -- and once a value is written
@@ -51,30 +50,20 @@ gives_more f xs n old new h e less = record {
   ];
 }
 
--- lists that are the same, once a value with the same list is written
-pub lists_kept : {X : Type 0} (f : X → List ℕ) (xs : List X) (n : ℕ) (old new : X) → n < length xs → old ≡ get_or xs n old → f new ≡ f old → map_list f (slice_set xs n new) ≡ map_list f xs
-lists_kept f xs n old new h e same =
-    let len : n < length (map_list f xs) = grind (arith, length-map, h) in
-    map-set f xs n new ∙ ap (slice_set (map_list f xs) n) (same ∙ sym (item_at f xs n old h e)) ∙ set-get_or (map_list f xs) n []
-
 pub list_here : {X : Type 0} (f : X → List ℕ) (xs : List X) (n : ℕ) (new : X) → n < length xs → list_at (map_list f (slice_set xs n new)) n ≡ f new
 list_here f xs n new h =
     let len : n < length (map_list f xs) = grind (arith, length-map, h) in
     ap (λ (ls : List (List ℕ)). list_at ls n) (map-set f xs n new) ∙ get_or-set_same (map_list f xs) n (f new) [] len
 
-pub list_set : {X : Type 0} (f : X → List ℕ) (xs : List X) (n : ℕ) (new : X) → n < length xs → map_list f (slice_set xs n new) ≡ slice_set (map_list f xs) n (list_at (map_list f (slice_set xs n new)) n)
-list_set f xs n new h = map-set f xs n new ∙ ap (slice_set (map_list f xs) n) (sym (list_here f xs n new h))
-
 -- a number that is taken out of a list by its place
-pub list_taken : (list xs ys : List ℕ) (i b r : ℕ) → list ≡ xs → slice_get list i ≡ Some b → r ≡ get_or xs i r → ys ≡ swap_remove xs i r → IsPermutation list (b ∷ ys)
-list_taken list xs ys i b r e at is removed =
+pub list_taken : (list xs ys : List ℕ) (i b : ℕ) → list ≡ xs → slice_get list i ≡ Some b → ys ≡ swap_remove xs i 0 → IsPermutation list (b ∷ ys)
+list_taken list xs ys i b e at removed =
     let there : slice_get xs i ≡ Some b = ap (λ (zs : List ℕ). slice_get zs i) (sym e) ∙ at in
     let within = slice_get_within xs i b there in
-    let own : slice_get xs i ≡ Some r = slice_get-get_or xs i r within ∙ ap (λ z. Some z) (sym is) in
-    let same : Some r ≡ Some b = sym own ∙ there in
-    let rb : r ≡ b = ap (λ o. unwrap_or o 0) same in
-    subst (λ (zs : List ℕ). IsPermutation zs (b ∷ ys)) (sym e) (subst (λ z. IsPermutation xs (z ∷ ys)) rb
-    (subst (λ (zs : List ℕ). IsPermutation xs (r ∷ zs)) (sym removed) (IsPermutation-swap_remove xs i r within is)))
+    let last = get_or_default xs (length xs - 1) 0 b (omega (arith, within)) in
+    subst (λ (zs : List ℕ). IsPermutation zs (b ∷ ys)) (sym e)
+    (subst (λ (zs : List ℕ). IsPermutation xs (b ∷ zs)) (sym (removed ∙ ap (λ y. take (length xs - 1) (slice_set xs i y)) last))
+    (IsPermutation-swap_remove xs i b within (sym (get_or_from_slice_get xs i b b there))))
 
 pub uses_none : (n : ℕ) (reserved : List ℕ) → UsesOne n reserved reserved
 uses_none n reserved = record { rest = λ m. omega arith }

@@ -2,3 +2,4 @@ pub mod Quotients
 pub mod DigraphLaws
 pub mod QuotientNeighbours
 pub mod QuotientTables
+pub mod NeighbourCells

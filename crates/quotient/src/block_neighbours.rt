@@ -6,28 +6,33 @@ ghost use Rattle.graph_spec.specs.Members.{has};
 ghost use Rattle.quotient.specs.QuotientNeighbours.{list_at};
 ghost use Rattle.quotient.specs.QuotientTables.{UsesOne, GivesMore};
 
+use cell_lists::{EMPTY, Segment, items, make_places, push, take_at};
 use px_base::Memory;
-use smallvec::SmallVec;
 use std::alloc::Global;
 use std::marker::Model;
 
-/// A list of neighbours for each block number.
+/// A list of neighbours for each block number. The lists lie in one array, so that no block takes an allocation of its own:
+/// a list takes 12 bytes, and where it ever had two neighbours, 4 to 16 for each of the most that it had.
 #[derive(Drop)]
 pub(crate) struct BlockNeighbours {
-    lists: Vec<SmallVec<u32, 4>>,
+    segments: Vec<Segment>,
+    cells: Vec<u32>,
 }
 
 impl Model for BlockNeighbours {
-    ghost use Rattle.std.specs.Prelude.{◌-◌, map};
-    ghost use Rattle.smallvec.specs.SmallVec.{small_vec_len};
+    ghost use Rattle.std.specs.Prelude.{map};
+    ghost use Rattle.cell_lists.specs.Segments.{items_in};
     ghost use Rattle.quotient.specs.QuotientTables.{KeptLists};
+    ghost use Rattle.quotient.specs.NeighbourCells.{AreHeld, spare_in};
 
     ghost Value = { KeptLists };
 
     ghost view = { λ n. record {
-      lists = map (λ list. list.items) n.lists.items;
-      reserved = map (λ list. list.capacity - small_vec_len list) n.lists.items;
+      lists = map (items_in n.cells.items) n.segments.items;
+      reserved = map spare_in n.segments.items;
     } };
+
+    ghost invariant = { λ n. AreHeld n.cells.items n.segments.items };
 }
 
 impl BlockNeighbours {
@@ -35,11 +40,14 @@ impl BlockNeighbours {
     pub(crate) fn new(alloc: Global, len: usize) -> Result<BlockNeighbours, Memory>
         ensures { IfOk result (λ n. n.lists ≡ replicate len []) }
     {
-        let mut lists = Vec::with_capacity(alloc, len)?;
+        let mut segments = Vec::with_capacity(alloc, len)?;
         for _ in 0..len {
-            lists.push_reserved(SmallVec::new(alloc));
+            segments.push_reserved(EMPTY);
         }
-        Ok(BlockNeighbours { lists })
+        Ok(BlockNeighbours {
+            segments,
+            cells: Vec::new(alloc),
+        })
     }
 
     /// The list with this number.
@@ -47,7 +55,7 @@ impl BlockNeighbours {
         requires { n < length self.now.lists }
         ensures { result.now ≡ list_at self.now.lists n }
     {
-        self.lists[n as usize].as_slice()
+        items(&self.cells, &self.segments[n as usize])
     }
 
     /// How many neighbours the list with this number has.
@@ -62,7 +70,8 @@ impl BlockNeighbours {
         requires { n < length self.old.lists }
         ensures { OnOk result (self.new.lists ≡ slice_set self.old.lists n (list_at self.old.lists n ++ b ∷ [])) }
     {
-        self.lists[n as usize].push(b)?;
+        self.reserve(n, 1)?;
+        self.add(n, b);
         Ok(())
     }
 
@@ -74,7 +83,7 @@ impl BlockNeighbours {
         ensures ok { OnOk result (len ≤ length self.new.lists) }
         ensures reserved { GivesMore self.old.reserved self.new.reserved }
     {
-        while self.lists.len() < len {
+        while self.segments.len() < len {
             self.push_empty()?;
         }
         Ok(())
@@ -85,8 +94,7 @@ impl BlockNeighbours {
         ensures reserved { OnOk result (GivesMore self.old.reserved self.new.reserved) }
         ensures err { OnErr result (self.new ≡ self.old) }
     {
-        let list = SmallVec::new(*self.lists.allocator());
-        self.lists.push(list)?;
+        self.segments.push(EMPTY)?;
         Ok(())
     }
 
@@ -97,7 +105,7 @@ impl BlockNeighbours {
         ensures reserved { GivesMore self.old.reserved self.new.reserved }
         ensures ok { OnOk result (more ≤ slice_index self.new.reserved n) }
     {
-        self.lists[n as usize].reserve(more)?;
+        make_places(&mut self.cells, &mut self.segments[n as usize], more)?;
         Ok(())
     }
 
@@ -108,7 +116,7 @@ impl BlockNeighbours {
         ensures lists { self.new.lists ≡ slice_set self.old.lists n (list_at self.old.lists n ++ b ∷ []) }
         ensures reserved { UsesOne n self.old.reserved self.new.reserved }
     {
-        self.lists[n as usize].push_reserved(b);
+        push(&mut self.cells, &mut self.segments[n as usize], b);
     }
 
     /// Takes a neighbour out of the list with this number, and answers its place, and which neighbour stood last: that
@@ -125,7 +133,7 @@ impl BlockNeighbours {
             unreachable!()
         };
         let last = last_of(self.get(n));
-        self.lists[n as usize].swap_remove(i);
+        take_at(&mut self.cells, &mut self.segments[n as usize], i);
         (i, last)
     }
 }

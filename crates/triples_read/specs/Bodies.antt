@@ -1,11 +1,11 @@
 -- Pieces between quotes, seen from the front: what private readers say.
 use Rattle.std.specs.Prelude.{◌≡◌, ℕ, List, ◌∷◌, ◌++◌, Bool, ◌⊎◌, [], false}
 use Rattle.std.proofs.Math.Utf8.{encodes}
-use Rattle.triples_read.specs.Terminals.{Many, One}
+use Rattle.triples_read.specs.Terminals.{Many, OneOf}
 
 -- s spells the character c: as it is, where c is of the class, or by an escape
 abbrev pub PieceOf : (ℕ → Bool) → (List ℕ → ℕ → Type 0) → List ℕ → ℕ → Type 0
-PieceOf class Esc s c = One class s c ⊎ Esc s c
+PieceOf class Esc s c = OneOf class s c ⊎ Esc s c
 
 -- pieces that spell v, then the end, then the tail
 abbrev pub Body : (List ℕ → ℕ → Type 0) → ℕ → List ℕ → List ℕ → List ℕ → Type 0

@@ -11,8 +11,8 @@ Many P s [] = s ≡ []
 Many P s (c ∷ cs) = (piece : List ℕ) × (rest : List ℕ) × (s ≡ piece ++ rest) × P piece c × Many P rest cs
 
 -- a character of the class, as it is
-abbrev pub One : (ℕ → Bool) → List ℕ → ℕ → Type 0
-One class s c = (s ≡ c ∷ []) × IsScalar c × IsTrue (class c)
+abbrev pub OneOf : (ℕ → Bool) → List ℕ → ℕ → Type 0
+OneOf class s c = (s ≡ c ∷ []) × IsScalar c × IsTrue (class c)
 
 -- [162s] HEX
 abbrev pub HEX : ℕ → Type 0
@@ -39,7 +39,7 @@ ECHAR s c = (e : ℕ) × (s ≡ 92 ∷ e ∷ []) × (escape_of e ≡ Some c)
 
 -- [^#x00-#x20<>"{}|^`\] | UCHAR
 abbrev pub IriPiece : List ℕ → ℕ → Type 0
-IriPiece s c = One is_iri_char s c ⊎ UCHAR s c
+IriPiece s c = OneOf is_iri_char s c ⊎ UCHAR s c
 
 -- [8] IRIREF: '<' ([^#x00-#x20<>"{}|^`\] | UCHAR)* '>'
 abbrev pub IRIREF : List ℕ → List ℕ → Type 0
@@ -47,7 +47,7 @@ IRIREF s v = (body : List ℕ) × (s ≡ 60 ∷ (body ++ 62 ∷ [])) × Many Iri
 
 -- [^#x22#x5C#xA#xD] | ECHAR | UCHAR
 abbrev pub StringPiece : List ℕ → ℕ → Type 0
-StringPiece s c = One is_string_char s c ⊎ (ECHAR s c ⊎ UCHAR s c)
+StringPiece s c = OneOf is_string_char s c ⊎ (ECHAR s c ⊎ UCHAR s c)
 
 -- [9] STRING_LITERAL_QUOTE: '"' ([^#x22#x5C#xA#xD] | ECHAR | UCHAR)* '"'
 abbrev pub STRING_LITERAL_QUOTE : List ℕ → List ℕ → Type 0

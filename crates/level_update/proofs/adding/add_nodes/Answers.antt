@@ -40,6 +40,6 @@ joins-preserved c =
           (way_joined g g2 (lone_nodes c.args.effects.now) (take at_place came) c.args.family.now c.joins.draft c.add_node.new.draft c.args.i (get_or came at_place 0) c.label-label.result
           c.first_number-number.result c.requires.before.graph (came_dead g g2 came c.args.effects.now at_place c.requires.effects c.came-came.ensures c.joins-test.true)
           (below_same (lone_nodes c.args.effects.now) g2 c.args.family.now c.args.draft.now c.joins.draft c.args.i c.joins.invariant.others c.requires.below) c.joins.invariant.way
-          c.add_node.ensures.others c.label-label.ensures.number c.first_number-number.ensures c.in_ok-add_node.ensures.joined c.in_ok-add_node.ensures.supports);
+          c.add_node.ensures.others c.label-label.ensures.number c.first_number-number.ensures c.in_ok-add_node.ensures.added c.in_ok-add_node.ensures.supports);
       others = same_next c.args.i c.args.draft.now c.joins.draft c.add_node.new.draft c.joins.invariant.others c.add_node.ensures.others;
     }

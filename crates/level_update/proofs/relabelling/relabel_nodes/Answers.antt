@@ -45,7 +45,7 @@ moves-preserved g c =
     record {
       way = subst (λ (xs : List ℕ). IsLevelRelabelled e xs g2 c.args.family.now c.relabel_node.new.draft c.args.i) (sym (nodes_next list i c.moves-test.true))
           (relabelled_next e (take i list) g2 c.args.family.now c.moves.draft c.relabel_node.new.draft c.args.i (get_or list i 0) c.label-label.result c.first_number-number.result under
-          c.moves.invariant.way c.relabel_node.ensures.others live c.label-label.ensures.number c.first_number-number.ensures c.in_ok-relabel_node.ensures.joined
+          c.moves.invariant.way c.relabel_node.ensures.others live c.label-label.ensures.number c.first_number-number.ensures c.in_ok-relabel_node.ensures.added
           c.in_ok-relabel_node.ensures.supports);
       others = same_next c.args.i c.args.draft.now c.moves.draft c.relabel_node.new.draft c.moves.invariant.others c.relabel_node.ensures.others;
       cost = omega (arith, more, so_far, here);

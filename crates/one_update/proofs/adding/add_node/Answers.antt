@@ -10,6 +10,6 @@ put-requires-clause-block c = subst (λ (ls : List (Option ℕ)). IsSome (at ls 
 
 pub returns : goal.returns
 returns c = record {
-  joined = node_put c.args.base.now c.args.n c.args.label c.in_ok-b.b c.args.draft.now c.new_block.new.self c.put.new.self _ c.in_ok-b.ensures.least c.in_ok-b.ensures.ok c.in_ok-b.ensures.labels
+  added = node_put c.args.base.now c.args.n c.args.label c.in_ok-b.b c.args.draft.now c.new_block.new.self c.put.new.self _ c.in_ok-b.ensures.least c.in_ok-b.ensures.ok c.in_ok-b.ensures.labels
       c.in_ok-put.ensures.blocks c.put.ensures.added c.put.ensures.supports c.in_ok-put.ensures.over;
 }

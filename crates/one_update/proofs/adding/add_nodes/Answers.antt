@@ -26,5 +26,5 @@ joins-preserved c =
       way = subst (λ (xs : List ℕ). IsIndexOnWay g2 g xs [] c.args.base.now c.add_node.new.draft) (sym (nodes_next came at_place c.joins-test.true))
           (index_joined g g2 (take at_place came) c.args.base.now c.joins.draft c.add_node.new.draft (get_or came at_place 0) c.label-label.result c.requires.before.graph
           (came_dead g g2 came c.args.effects.now at_place c.requires.effects c.came-came.ensures c.joins-test.true) c.joins.invariant.way c.label-label.ensures.number
-          c.in_ok-add_node.ensures.joined);
+          c.in_ok-add_node.ensures.added);
     }

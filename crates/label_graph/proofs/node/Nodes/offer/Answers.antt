@@ -1,5 +1,5 @@
 use Rattle.std.proofs.Common.{◌≡◌, ◌∙◌, ◌<◌, sym, subst, ap, arith, length, get_or}
-use Rattle.label_graph.specs.Segments.{LiesWithin}
+use Rattle.cell_lists.specs.Segments.{LiesWithin}
 use Rattle.label_graph.proofs.Reuses.{list_place, list-is, list-within, nodes-noted}
 use Rattle.label_graph.proofs.node.Nodes.offer.Goals as goal
 

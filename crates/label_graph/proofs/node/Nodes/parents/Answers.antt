@@ -1,6 +1,6 @@
 use Rattle.std.proofs.Common.{◌∙◌, sym, ap, subst, length, arith, get_or}
 use Rattle.std.proofs.lemmas.List.{length-map}
-use Rattle.label_graph.specs.Segments.{items_in, LiesWithin}
+use Rattle.cell_lists.specs.Segments.{items_in, LiesWithin}
 use Rattle.label_graph.specs.NodeRows.{node_in}
 use Rattle.label_graph.proofs.GetNodes.{parents-past}
 use Rattle.label_graph.proofs.RowLemmas.{parent-within, parents-seen}

@@ -1,25 +1,34 @@
-use Rattle.std.proofs.Common.{◌-◌, ◌∙◌, ◌<◌, ◌∷◌, [], ℕ, List, length, arith, subst, ap, map, slice_set}
-use Rattle.std.proofs.lemmas.List.{length-map, length-append}
+use Rattle.std.proofs.Common.{◌<◌, length, ap, arith, sym, subst, map, slice_set, slice_index}
+use Rattle.std.proofs.lemmas.List.{length-map}
+use Rattle.cell_lists.specs.Segments.{items_in}
 use Rattle.quotient.specs.QuotientTables.{KeptLists, UsesOne}
-use Rattle.quotient.proofs.Pairs.{pushed_at}
-use Rattle.quotient.proofs.ReservedCapacity.{uses_one}
+use Rattle.quotient.specs.NeighbourCells.{spare_in}
+use Rattle.quotient.proofs.ReservedCapacity.{number_at, uses_one}
+use Rattle.quotient.proofs.NeighbourCells.{held-set, lists-pushed}
 use Rattle.quotient.proofs.block_neighbours.BlockNeighbours.add.Goals as goal
+
+pub push-requires-clause-reserved : goal.push-requires-clause-reserved
+push-requires-clause-reserved c =
+    let s = c.self.inside in
+    let h : c.args.n < length s.segments.items = omega (arith, c.requires.within, ap (λ (k : KeptLists). length k.lists) c.self.view_is, length-map s.segments.items (items_in s.cells.items)) in
+    let spare = subst (λ (k : KeptLists). 0 < slice_index k.reserved c.args.n) (sym c.self.view_is) c.requires.reserved in
+    omega (arith, spare, number_at spare_in s.segments.items c.args.n c.index_mut.result.now h c.index_mut.ensures.value)
+
+pub invariant_of-self : goal.invariant_of-self
+invariant_of-self c =
+    let s = c.self.inside in
+    let h : c.args.n < length s.segments.items = omega (arith, c.requires.within, ap (λ (k : KeptLists). length k.lists) c.self.view_is, length-map s.segments.items (items_in s.cells.items)) in
+    held-set s.cells.items s.segments.items c.args.n c.index_mut.result.now h c.index_mut.ensures.value c.self.invariant c.push.new.cells.items c.push.new.segment c.push.ensures.writes
 
 pub returns-clause-lists : goal.returns-clause-lists
 returns-clause-lists c =
-    let lists = c.self.inside.lists.items in
-    let seen = ap (λ (k : KeptLists). k.lists) c.self.view_is in
-    let below = rw (← seen) at c.requires.within in
-    let h : c.args.n < length lists = grind (arith, length-map, below) in
-    rw (← seen) (pushed_at _ lists c.args.n c.args.b c.index_mut.result.now c.push_reserved.new.self h c.index_mut.ensures.value c.push_reserved.ensures.items)
+    let s = c.self.inside in
+    let h : c.args.n < length s.segments.items = omega (arith, c.requires.within, ap (λ (k : KeptLists). length k.lists) c.self.view_is, length-map s.segments.items (items_in s.cells.items)) in
+    rw (← c.self.view_is) (lists-pushed s.cells.items s.segments.items c.args.n c.index_mut.result.now h c.index_mut.ensures.value c.self.invariant c.push.new.cells.items c.push.new.segment c.push.ensures.writes c.args.b c.push.ensures.items)
 
 pub returns-clause-reserved : goal.returns-clause-reserved
 returns-clause-reserved c =
-    let lists = c.self.inside.lists.items in
-    let seen = ap (λ (k : KeptLists). k.lists) c.self.view_is in
-    let below = rw (← seen) at c.requires.within in
-    let h : c.args.n < length lists = grind (arith, length-map, below) in
-    let longer = ap (λ (xs : List ℕ). length xs) c.push_reserved.ensures.items ∙ length-append c.index_mut.result.now.items (c.args.b ∷ []) in
-    let same = c.push_reserved.ensures.capacity in
-    subst (λ (k : KeptLists). UsesOne c.args.n k.reserved (map (λ list. list.capacity - length list.items) (slice_set lists c.args.n c.push_reserved.new.self))) c.self.view_is
-    (uses_one (λ list. list.capacity - length list.items) lists c.args.n c.index_mut.result.now c.push_reserved.new.self h c.index_mut.ensures.value (omega (arith, longer, same)))
+    let s = c.self.inside in
+    let h : c.args.n < length s.segments.items = omega (arith, c.requires.within, ap (λ (k : KeptLists). length k.lists) c.self.view_is, length-map s.segments.items (items_in s.cells.items)) in
+    subst (λ (k : KeptLists). UsesOne c.args.n k.reserved (map spare_in (slice_set s.segments.items c.args.n c.push.new.segment))) c.self.view_is
+    (uses_one spare_in s.segments.items c.args.n c.index_mut.result.now c.push.new.segment h c.index_mut.ensures.value (omega (arith, c.push.ensures.capacity, c.push.ensures.len)))

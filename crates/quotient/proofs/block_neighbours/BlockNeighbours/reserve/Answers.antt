@@ -1,34 +1,54 @@
-use Rattle.std.proofs.Common.{◌-◌, ◌∙◌, ◌<◌, ℕ, List, length, arith, subst, ap, map, slice_set}
+use Rattle.std.proofs.Common.{◌<◌, length, ap, arith, subst, map, slice_set}
 use Rattle.std.proofs.lemmas.List.{length-map}
+use Rattle.cell_lists.specs.Segments.{items_in}
 use Rattle.quotient.specs.QuotientTables.{KeptLists, GivesMore}
-use Rattle.quotient.proofs.ReservedCapacity.{gives_more, written_here, lists_kept}
+use Rattle.quotient.specs.NeighbourCells.{spare_in}
+use Rattle.quotient.proofs.ReservedCapacity.{gives_more, written_here}
+use Rattle.quotient.proofs.NeighbourCells.{held-set, len-kept, lists-kept}
 use Rattle.quotient.proofs.block_neighbours.BlockNeighbours.reserve.Goals as goal
+
+pub invariant_of-self : goal.invariant_of-self
+invariant_of-self c =
+    let s = c.self.inside in
+    let h : c.args.n < length s.segments.items = omega (arith, c.requires, ap (λ (k : KeptLists). length k.lists) c.self.view_is, length-map s.segments.items (items_in s.cells.items)) in
+    held-set s.cells.items s.segments.items c.args.n c.index_mut.result.now h c.index_mut.ensures.value c.self.invariant c.make_places.new.cells.items c.make_places.new.segment c.make_places.ensures.writes
+
+pub returns-in_err-make_places-clause-lists : goal.returns-in_err-make_places-clause-lists
+returns-in_err-make_places-clause-lists c =
+    let s = c.self.inside in
+    let h : c.args.n < length s.segments.items = omega (arith, c.requires, ap (λ (k : KeptLists). length k.lists) c.self.view_is, length-map s.segments.items (items_in s.cells.items)) in
+    rw (← c.self.view_is) (lists-kept s.cells.items s.segments.items c.args.n c.index_mut.result.now h c.index_mut.ensures.value c.self.invariant c.make_places.new.cells.items c.make_places.new.segment c.make_places.ensures.writes c.make_places.ensures.items)
+
+pub returns-in_err-make_places-clause-reserved : goal.returns-in_err-make_places-clause-reserved
+returns-in_err-make_places-clause-reserved c =
+    let s = c.self.inside in
+    let h : c.args.n < length s.segments.items = omega (arith, c.requires, ap (λ (k : KeptLists). length k.lists) c.self.view_is, length-map s.segments.items (items_in s.cells.items)) in
+    let len = len-kept s.cells.items s.segments.items c.args.n c.index_mut.result.now h c.index_mut.ensures.value c.self.invariant c.make_places.new.cells.items c.make_places.new.segment c.make_places.ensures.writes c.make_places.ensures.items in
+    subst (λ (k : KeptLists). GivesMore k.reserved (map spare_in (slice_set s.segments.items c.args.n c.make_places.new.segment))) c.self.view_is
+    (gives_more spare_in s.segments.items c.args.n c.index_mut.result.now c.make_places.new.segment h c.index_mut.ensures.value (omega (arith, len, c.make_places.ensures.capacity)))
+
+pub invariant_of-self-2 : goal.invariant_of-self-2
+invariant_of-self-2 c =
+    let s = c.self.inside in
+    let h : c.args.n < length s.segments.items = omega (arith, c.requires, ap (λ (k : KeptLists). length k.lists) c.self.view_is, length-map s.segments.items (items_in s.cells.items)) in
+    held-set s.cells.items s.segments.items c.args.n c.index_mut.result.now h c.index_mut.ensures.value c.self.invariant c.make_places.new.cells.items c.make_places.new.segment c.make_places.ensures.writes
 
 pub returns-clause-lists : goal.returns-clause-lists
 returns-clause-lists c =
-    let lists = c.self.inside.lists.items in
-    let seen = ap (λ (k : KeptLists). k.lists) c.self.view_is in
-    let below = rw (← seen) at c.requires in
-    let h : c.args.n < length lists = grind (arith, length-map, below) in
-    lists_kept (λ list. list.items) lists c.args.n c.index_mut.result.now c.reserve.new.self h c.index_mut.ensures.value c.reserve.ensures.items ∙ seen
+    let s = c.self.inside in
+    let h : c.args.n < length s.segments.items = omega (arith, c.requires, ap (λ (k : KeptLists). length k.lists) c.self.view_is, length-map s.segments.items (items_in s.cells.items)) in
+    rw (← c.self.view_is) (lists-kept s.cells.items s.segments.items c.args.n c.index_mut.result.now h c.index_mut.ensures.value c.self.invariant c.make_places.new.cells.items c.make_places.new.segment c.make_places.ensures.writes c.make_places.ensures.items)
 
 pub returns-clause-reserved : goal.returns-clause-reserved
 returns-clause-reserved c =
-    let lists = c.self.inside.lists.items in
-    let seen = ap (λ (k : KeptLists). k.lists) c.self.view_is in
-    let below = rw (← seen) at c.requires in
-    let h : c.args.n < length lists = grind (arith, length-map, below) in
-    let same = ap (λ (xs : List ℕ). length xs) c.reserve.ensures.items in
-    let more = c.reserve.ensures.capacity in
-    subst (λ (k : KeptLists). GivesMore k.reserved (map (λ list. list.capacity - length list.items) (slice_set lists c.args.n c.reserve.new.self))) c.self.view_is
-    (gives_more (λ list. list.capacity - length list.items) lists c.args.n c.index_mut.result.now c.reserve.new.self h c.index_mut.ensures.value (omega (arith, same, more)))
+    let s = c.self.inside in
+    let h : c.args.n < length s.segments.items = omega (arith, c.requires, ap (λ (k : KeptLists). length k.lists) c.self.view_is, length-map s.segments.items (items_in s.cells.items)) in
+    let len = len-kept s.cells.items s.segments.items c.args.n c.index_mut.result.now h c.index_mut.ensures.value c.self.invariant c.make_places.new.cells.items c.make_places.new.segment c.make_places.ensures.writes c.make_places.ensures.items in
+    subst (λ (k : KeptLists). GivesMore k.reserved (map spare_in (slice_set s.segments.items c.args.n c.make_places.new.segment))) c.self.view_is
+    (gives_more spare_in s.segments.items c.args.n c.index_mut.result.now c.make_places.new.segment h c.index_mut.ensures.value (omega (arith, len, c.make_places.ensures.capacity)))
 
 pub returns-clause-ok : goal.returns-clause-ok
 returns-clause-ok c =
-    let lists = c.self.inside.lists.items in
-    let seen = ap (λ (k : KeptLists). k.lists) c.self.view_is in
-    let below = rw (← seen) at c.requires in
-    let h : c.args.n < length lists = grind (arith, length-map, below) in
-    let reserved = c.in_ok-reserve.ensures.ok in
-    let is = written_here (λ list. list.capacity - length list.items) lists c.args.n c.reserve.new.self h in
-    omega (arith, reserved, is)
+    let s = c.self.inside in
+    let h : c.args.n < length s.segments.items = omega (arith, c.requires, ap (λ (k : KeptLists). length k.lists) c.self.view_is, length-map s.segments.items (items_in s.cells.items)) in
+    omega (arith, c.in_ok-make_places.ensures.ok, written_here spare_in s.segments.items c.args.n c.make_places.new.segment h)

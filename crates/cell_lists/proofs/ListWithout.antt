@@ -8,8 +8,8 @@ use Rattle.std.proofs.lemmas.List.Quantifiers.{position-Some}
 use Rattle.std.proofs.lemmas.List.Sorted.{IsPermutation-swap_remove, list_any-IsPermutation}
 use Rattle.std.proofs.lemmas.Map.Keys.{IsDistinct-IsPermutation, IsDistinct-head, IsDistinct-tail}
 use Rattle.graph_spec.specs.Members.{has}
-use Rattle.label_graph.specs.Nodes.{IsWithout}
-use Rattle.label_graph.proofs.Positions.{position-none}
+use Rattle.cell_lists.specs.Segments.{IsWithout}
+use Rattle.cell_lists.proofs.Positions.{position-none}
 use Rattle.graph_spec.proofs.ListLemmas.{none-has}
 
 -- what was one number and others has just the others

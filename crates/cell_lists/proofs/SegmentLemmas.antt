@@ -5,10 +5,9 @@ use Rattle.std.specs.List.{swap_remove, IsDistinct}
 use Rattle.std.proofs.lemmas.List.{get_or_default}
 use Rattle.std.proofs.lemmas.List.Quantifiers.{position-Some}
 use Rattle.std.proofs.lemmas.Bool.Decides.{nat_tests}
-use Rattle.label_graph.specs.declared.segment.Segment.{Segment}
-use Rattle.label_graph.specs.Nodes.{IsWithout}
-use Rattle.label_graph.specs.Segments.{items_in, LiesWithin, IsApart, Begins, Writes, IsMoved}
-use Rattle.label_graph.proofs.ListWithout.{taken}
+use Rattle.cell_lists.specs.declared.segment.Segment.{Segment}
+use Rattle.cell_lists.specs.Segments.{items_in, LiesWithin, IsApart, Begins, Writes, IsMoved, IsWithout}
+use Rattle.cell_lists.proofs.ListWithout.{taken}
 
 -- cells behind others
 take-more : (n : ℕ) (xs more : List ℕ) → n ≤ length xs → take n (xs ++ more) ≡ take n xs
@@ -213,26 +212,30 @@ items-taken cells s t k d x w long h at reserved len is =
     ∙ ap (λ m. take m (set (items_in cells s) k x)) (omega (arith, len, n))
     ∙ ap (λ y. take (length (items_in cells s) - 1) (set (items_in cells s) k y)) (sym last)
 
+-- a number is taken out of a list among the cells
+pub long-taken : (cells : List ℕ) (s t : Segment) (k x : ℕ) → LiesWithin (length cells) s → 2 ≤ s.reserved → k < s.len → t.first ≡ s.first → t.reserved ≡ s.reserved → t.len ≡ s.len - 1
+    → x ≡ get_or cells (s.first + (s.len - 1)) x → items_in (set cells (s.first + k) x) t ≡ swap_remove (items_in cells s) k 0
+long-taken cells s t k x w long h at reserved len is =
+    items-taken cells s t k 0 x w long h at reserved len (is ∙ get_or_default cells (s.first + (s.len - 1)) x 0 (omega (arith, w.ends long, w.fits, h)))
+
+-- and out of a list in the segment
+pub short-taken : (cells : List ℕ) (s t : Segment) (k : ℕ) → LiesWithin (length cells) s → s.reserved < 2 → k < s.len → t.reserved ≡ s.reserved → t.len ≡ s.len - 1 → items_in cells t ≡ swap_remove (items_in cells s) k 0
+short-taken cells s t k w short h reserved len =
+    let xs = items_in cells s in
+    let one : s.len ≡ 1 = omega (arith, h, w.fits, short) in
+    let nothing : t.len ≡ 0 = omega (arith, len, one) in
+    short-items cells t (omega (arith, short, reserved)) ∙ ap (λ m. take m (t.first ∷ [])) nothing
+    ∙ ap (λ m. take (m - 1) (set xs k (get_or xs (length xs - 1) 0))) (sym (items-length cells s w ∙ one))
+
 -- that leaves the list without the other
 module _ (cells : List ℕ) (s : Segment) (k n : ℕ) (w : LiesWithin (length cells) s) (at : position (nat_eq n) (items_in cells s) ≡ Some k) where
   pub place-within : k < s.len
   place-within = omega (arith, (position-Some (nat_eq n) (items_in cells s) k 0 at).0, items-length cells s w)
 
-  pub items-without : (t : Segment) (x : ℕ) → 2 ≤ s.reserved → IsDistinct nat_eq (items_in cells s) → t.first ≡ s.first → t.reserved ≡ s.reserved → t.len ≡ s.len - 1
-      → x ≡ get_or cells (s.first + (s.len - 1)) x → IsWithout (items_in cells s) (items_in (set cells (s.first + k) x) t) n
-  items-without t x long once from reserved len is =
-      let there = place-within in
-      let d = get_or (items_in cells s) k 0 in
-      taken (items_in cells s) _ n k d once at (get_or_default (items_in cells s) k 0 d (omega (arith, there, items-length cells s w)))
-      (items-taken cells s t k d x w long there from reserved len (is ∙ get_or_default cells (s.first + (s.len - 1)) x d (omega (arith, w.ends long, w.fits, there))))
-
-  -- the number of a list in a segment
-  pub short-without : (t : Segment) → s.reserved < 2 → IsDistinct nat_eq (items_in cells s) → t.reserved ≡ s.reserved → t.len ≡ s.len - 1 → IsWithout (items_in cells s) (items_in cells t) n
-  short-without t h once reserved len =
-      let there = place-within in
-      let d = get_or (items_in cells s) k 0 in
-      let one : s.len ≡ 1 = omega (arith, there, w.fits, h) in
-      let nothing : t.len ≡ 0 = omega (arith, len, one) in
-      let none : items_in cells t ≡ [] = short-items cells t (omega (arith, h, reserved)) ∙ ap (λ m. take m (t.first ∷ [])) nothing in
-      taken (items_in cells s) _ n k d once at (get_or_default (items_in cells s) k 0 d (omega (arith, there, items-length cells s w)))
-      (none ∙ ap (λ m. take (m - 1) (set (items_in cells s) k (get_or (items_in cells s) (length (items_in cells s) - 1) d))) (sym (items-length cells s w ∙ one)))
+  pub items-without : (ys : List ℕ) → IsDistinct nat_eq (items_in cells s) → ys ≡ swap_remove (items_in cells s) k 0 → IsWithout (items_in cells s) ys n
+  items-without ys once is =
+      let xs = items_in cells s in
+      let within : k < length xs = omega (arith, place-within, items-length cells s w) in
+      let d = get_or xs k 0 in
+      taken xs ys n k d once at (get_or_default xs k 0 d within)
+      (is ∙ ap (λ y. take (length xs - 1) (set xs k y)) (get_or_default xs (length xs - 1) 0 d (omega (arith, within))))

@@ -5,7 +5,7 @@ use Rattle.std.proofs.lemmas.List.{take_all}
 use Rattle.std.specs.List.{prefix_len}
 use Rattle.graph_spec.specs.Members.{has}
 use Rattle.graph_spec.proofs.ListLemmas.{found, is_found}
-use Rattle.label_graph.proofs.Positions.{missing, is_missing}
+use Rattle.cell_lists.proofs.Positions.{missing, is_missing}
 
 neither : (a b : Bool) → (a || b) ≡ false → (a ≡ false) × (b ≡ false)
 neither true b h = elim (subst (λ t. elim t as (λ _. Type 0) [ true ↦ Unit {0} | false ↦ ⊥ ]) h tt) [ ]

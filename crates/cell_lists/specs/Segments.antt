@@ -1,6 +1,8 @@
 -- Lists that lie among the cells of one array, or in a segment itself.
-use Rattle.std.specs.Prelude.{◌≡◌, ℕ, ◌+◌, ◌<◌, ◌≤◌, ◌⊎◌, List, [], ◌∷◌, ◌++◌, length, take, drop, nat_lt, if◌then◌else◌}
-use Rattle.label_graph.specs.declared.segment.Segment.{Segment}
+use Rattle.std.specs.Prelude.{◌≡◌, ℕ, ◌+◌, ◌<◌, ◌≤◌, ◌⊎◌, ◌&&◌, not, List, [], ◌∷◌, ◌++◌, length, take, drop, nat_eq, nat_lt, if◌then◌else◌}
+use Rattle.std.specs.List.{IsDistinct}
+use Rattle.graph_spec.specs.Members.{has}
+use Rattle.cell_lists.specs.declared.segment.Segment.{Segment}
 
 -- the numbers of a list: it lies among the cells, or in the segment itself where its capacity is one
 abbrev pub items_in : List ℕ → Segment → List ℕ
@@ -75,3 +77,10 @@ pub record Exchanges (old new : List ℕ) (s r t q : Segment) : Type 0 where
   pub room_items : items_in new q ≡ items_in old r
   -- t has no less capacity than s
   pub more : s.reserved ≤ t.reserved
+
+-- the list has the others that it had, each once, and not that number
+pub record IsWithout (old new : List ℕ) (n : ℕ) : Type 0 where
+  -- no number stands twice
+  pub once : IsDistinct nat_eq new
+  -- the list has what it had, but for n
+  pub members : (m : ℕ) → has new m ≡ (not (nat_eq m n) && has old m)

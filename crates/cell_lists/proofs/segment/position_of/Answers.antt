@@ -1,6 +1,6 @@
 use Rattle.std.proofs.Common.{sym, ◌∙◌}
-use Rattle.label_graph.proofs.SearchedPieces.{position-behind, position-nowhere}
-use Rattle.label_graph.proofs.segment.position_of.Goals as goal
+use Rattle.cell_lists.proofs.SearchedPieces.{position-behind, position-nowhere}
+use Rattle.cell_lists.proofs.segment.position_of.Goals as goal
 
 pub returns-in_err-at : goal.returns-in_err-at
 returns-in_err-at c =

@@ -3,9 +3,9 @@ use Rattle.std.proofs.Common.{◌≡◌, ℕ, zero, suc, ◌+◌, ◌<◌, ◌�
 use Rattle.std.proofs.Math.Seq.{paste}
 use Rattle.std.proofs.lemmas.List.{take_more, take_more_set}
 use Rattle.std.proofs.lemmas.List.Edits.{paste_none, paste_more}
-use Rattle.label_graph.specs.declared.segment.Segment.{Segment}
-use Rattle.label_graph.specs.Segments.{items_in, LiesWithin, IsApart, IsCopied, Exchanges}
-use Rattle.label_graph.proofs.SegmentLemmas.{drop-set, set-apart, short-items, long-items, items-none}
+use Rattle.cell_lists.specs.declared.segment.Segment.{Segment}
+use Rattle.cell_lists.specs.Segments.{items_in, LiesWithin, IsApart, IsCopied, Exchanges}
+use Rattle.cell_lists.proofs.SegmentLemmas.{drop-set, set-apart, short-items, long-items, items-none}
 
 one-number : (n x : ℕ) (ys : List ℕ) → n < 2 → 0 < length ys → take n (set ys 0 x) ≡ take n (x ∷ [])
 one-number n x [] h l = absurd (omega arith)

@@ -1,6 +1,6 @@
 use Rattle.std.proofs.Common.{arith, sym, ◌∙◌}
-use Rattle.label_graph.proofs.SearchedPieces.{has-further}
-use Rattle.label_graph.proofs.segment.prefix_without.Goals as goal
+use Rattle.cell_lists.proofs.SearchedPieces.{has-further}
+use Rattle.cell_lists.proofs.segment.prefix_without.Goals as goal
 
 pub loop-front-preserved : goal.loop-front-preserved
 loop-front-preserved c = record {

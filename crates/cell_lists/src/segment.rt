@@ -1,9 +1,8 @@
 // Lists of numbers that lie among the cells of one array, or in a segment itself.
 ghost use Rattle.std.specs.Prelude.{◌≡◌, ◌<◌, ◌≤◌, ◌+◌, ◌++◌, ◌∷◌, [], ◌-◌, length, position, nat_eq, nat_lt, take, slice_get, Some, true, false, IfOk, OnOk, IsTrue};
-ghost use Rattle.std.specs.List.{IsDistinct};
+ghost use Rattle.std.specs.List.{IsDistinct, swap_remove};
 ghost use Rattle.graph_spec.specs.Members.{has};
-ghost use Rattle.label_graph.specs.Nodes.{IsWithout};
-ghost use Rattle.label_graph.specs.Segments.{items_in, LiesWithin, IsApart, Writes, IsMoved, IsCopied, Exchanges, Begins};
+ghost use Rattle.cell_lists.specs.Segments.{items_in, LiesWithin, IsApart, Writes, IsMoved, IsCopied, Exchanges, Begins, IsWithout};
 
 use px_base::Memory;
 use std::mem::swap;
@@ -15,34 +14,36 @@ const PIECE: usize = 256;
 /// How many cells there are at most.
 const MOST_CELLS: usize = 0xFFFF_FFFF;
 
-/// A list: its length, its capacity, and where it begins. `first` is the place of its first cell.
-/// Where its capacity is one the list takes no cell, and `first` is that number. So a list takes 12 bytes; as
-/// an enum it would take 16.
+/// Where a list lies. Where its capacity is one the list takes no cell, and `first` is that number. So a list takes 12
+/// bytes; as an enum it would take 16.
 #[derive(Clone, Copy)]
-pub(crate) struct Segment {
-    pub(crate) first: u32,
-    pub(crate) len: u32,
-    pub(crate) reserved: u32,
+pub struct Segment {
+    /// The place of its first cell, or its number.
+    pub first: u32,
+    /// How many numbers it has.
+    pub len: u32,
+    /// How many fit before it has to be moved: its capacity.
+    pub reserved: u32,
 }
 
-/// Whether the list takes no cell.
+/// Whether the list takes no cell. O(1), no memory.
 #[inline(always)]
-pub(crate) fn is_short(segment: &Segment) -> bool
+pub fn is_short(segment: &Segment) -> bool
     ensures { result ≡ nat_lt segment.now.reserved 2 }
 {
     segment.reserved < 2
 }
 
-/// A list without numbers, with capacity for one.
-pub(crate) const EMPTY: Segment = Segment {
+/// A list without numbers, with capacity for one. It takes no cell.
+pub const EMPTY: Segment = Segment {
     first: 0,
     len: 0,
     reserved: 1,
 };
 
-/// The numbers of a list.
+/// The numbers of a list. O(1), no memory.
 #[inline(always)]
-pub(crate) fn items<'a>(cells: &'a [u32], segment: &'a Segment) -> &'a [u32]
+pub fn items<'a>(cells: &'a [u32], segment: &'a Segment) -> &'a [u32]
     requires { LiesWithin (length cells.now) segment.now }
     ensures { result.now ≡ items_in cells.now segment.now }
 {
@@ -54,9 +55,9 @@ pub(crate) fn items<'a>(cells: &'a [u32], segment: &'a Segment) -> &'a [u32]
     &cells[from..from + len]
 }
 
-/// How many more numbers fit.
+/// How many more numbers fit. O(1), no memory.
 #[inline(always)]
-pub(crate) fn spare(segment: &Segment) -> usize
+pub fn spare(segment: &Segment) -> usize
     ensures { result ≡ segment.now.reserved - segment.now.len }
 {
     if segment.len < segment.reserved {
@@ -66,13 +67,10 @@ pub(crate) fn spare(segment: &Segment) -> usize
     }
 }
 
-/// Reserves capacity for one number more than that many, where there isn't. The list then lies behind all others.
+/// Reserves capacity for one number more than that many, where there isn't. The list then lies behind all others, and the
+/// cells that it had are used no more. O(1), or O(n) to move a list of n numbers; where memory runs out the list stays.
 #[inline(always)]
-pub(crate) fn make_place(
-    cells: &mut Vec<u32>,
-    segment: &mut Segment,
-    taken: usize,
-) -> Result<(), Memory>
+pub fn make_place(cells: &mut Vec<u32>, segment: &mut Segment, taken: usize) -> Result<(), Memory>
     requires { LiesWithin (length cells.old.items) segment.old }
     ensures writes { Writes cells.old.items cells.new.items segment.old segment.new }
     ensures items { items_in cells.new.items segment.new ≡ items_in cells.old.items segment.old }
@@ -82,12 +80,34 @@ pub(crate) fn make_place(
     if spare(segment) > taken {
         return Ok(());
     }
-    *segment = moved(cells, *segment)?;
+    *segment = moved(cells, *segment, more_reserved(segment.reserved))?;
     Ok(())
 }
 
-/// The capacity of a list once it is moved: twice as much, and at least four.
-pub(crate) fn more_reserved(reserved: u32) -> usize
+/// Reserves capacity for that many numbers more, where there isn't. The list then lies behind all others, and the cells
+/// that it had are used no more. O(1), or O(n) to move a list of n numbers, amortized O(m) for m numbers one by one; where
+/// memory runs out the list stays.
+pub fn make_places(cells: &mut Vec<u32>, segment: &mut Segment, more: usize) -> Result<(), Memory>
+    requires { LiesWithin (length cells.old.items) segment.old }
+    ensures writes { Writes cells.old.items cells.new.items segment.old segment.new }
+    ensures items { items_in cells.new.items segment.new ≡ items_in cells.old.items segment.old }
+    ensures capacity { segment.old.reserved ≤ segment.new.reserved }
+    ensures ok { OnOk result (more ≤ segment.new.reserved - segment.new.len) }
+{
+    if spare(segment) >= more {
+        return Ok(());
+    }
+    if more > MOST_CELLS {
+        return Err(Memory);
+    }
+    let least = segment.len as usize + more;
+    let reserved = least.max(more_reserved(segment.reserved));
+    *segment = moved(cells, *segment, reserved)?;
+    Ok(())
+}
+
+/// The capacity of a list once it is moved: twice as much, and at least four. O(1), no memory.
+pub fn more_reserved(reserved: u32) -> usize
     ensures more { reserved < result }
     ensures long { 2 ≤ result }
 {
@@ -114,14 +134,16 @@ fn put_behind(cells: &mut Vec<u32>, segment: Segment) -> Result<(), Memory>
     Ok(())
 }
 
-// Copies a list behind all cells, with more capacity.
-fn moved(cells: &mut Vec<u32>, segment: Segment) -> Result<Segment, Memory>
-    requires { LiesWithin (length cells.old.items) segment }
+// Copies a list behind all cells, with that capacity.
+fn moved(cells: &mut Vec<u32>, segment: Segment, reserved: usize) -> Result<Segment, Memory>
+    requires within { LiesWithin (length cells.old.items) segment }
+    requires more { segment.reserved < reserved }
+    requires long { 2 ≤ reserved }
     ensures begins { Begins cells.old.items cells.new.items }
     ensures moved { IfOk result (IsMoved cells.old.items cells.new.items segment) }
+    ensures capacity { IfOk result (λ t. t.reserved ≡ reserved) }
 {
     let at = cells.len();
-    let reserved = more_reserved(segment.reserved);
     if at > MOST_CELLS || reserved > MOST_CELLS - at {
         return Err(Memory);
     }
@@ -136,7 +158,8 @@ fn moved(cells: &mut Vec<u32>, segment: Segment) -> Result<Segment, Memory>
 }
 
 /// Moves a list into the room of an empty one, which gets its room instead. Where that room isn't larger, nothing is done.
-pub(crate) fn exchange(cells: &mut Vec<u32>, list: &mut Segment, room: &mut Segment)
+/// O(n) for n numbers, no memory.
+pub fn exchange(cells: &mut Vec<u32>, list: &mut Segment, room: &mut Segment)
     requires list { LiesWithin (length cells.old.items) list.old }
     requires room { LiesWithin (length cells.old.items) room.old }
     requires apart { IsApart list.old room.old }
@@ -169,9 +192,9 @@ fn copy_into(cells: &mut Vec<u32>, list: Segment, room: Segment)
     cells.copy_within(from..from + list.len as usize, to);
 }
 
-/// Puts a number behind the others of a list, where capacity is left.
+/// Puts a number behind the others of a list, where capacity is left. O(1), no memory.
 #[inline(always)]
-pub(crate) fn push(cells: &mut Vec<u32>, segment: &mut Segment, n: u32)
+pub fn push(cells: &mut Vec<u32>, segment: &mut Segment, n: u32)
     requires within { LiesWithin (length cells.old.items) segment.old }
     requires reserved { segment.old.len < segment.old.reserved }
     ensures writes { Writes cells.old.items cells.new.items segment.old segment.new }
@@ -188,8 +211,8 @@ pub(crate) fn push(cells: &mut Vec<u32>, segment: &mut Segment, n: u32)
 }
 
 /// Takes a number out of a list that has it at most once. The last one comes into its place. It is O(1) for the last and
-/// the first number of the list.
-pub(crate) fn take_out(cells: &mut Vec<u32>, segment: &mut Segment, n: u32)
+/// the first number of the list, else O(n) for n numbers; it takes no memory.
+pub fn take_out(cells: &mut Vec<u32>, segment: &mut Segment, n: u32)
     requires within { LiesWithin (length cells.old.items) segment.old }
     requires once { IsDistinct nat_eq (items_in cells.old.items segment.old) }
     ensures writes { Writes cells.old.items cells.new.items segment.old segment.new }
@@ -200,6 +223,18 @@ pub(crate) fn take_out(cells: &mut Vec<u32>, segment: &mut Segment, n: u32)
     let Some(place) = place_of(items(cells, segment), n) else {
         return;
     };
+    take_at(cells, segment, place);
+}
+
+/// Takes the number at a place out of a list. The last one comes into its place. O(1), no memory.
+pub fn take_at(cells: &mut Vec<u32>, segment: &mut Segment, place: usize)
+    requires within { LiesWithin (length cells.old.items) segment.old }
+    requires place { place < segment.old.len }
+    ensures writes { Writes cells.old.items cells.new.items segment.old segment.new }
+    ensures items { items_in cells.new.items segment.new ≡ swap_remove (items_in cells.old.items segment.old) place 0 }
+    ensures capacity { segment.new.reserved ≡ segment.old.reserved }
+    ensures len { segment.new.len ≡ segment.old.len - 1 }
+{
     segment.len -= 1;
     if is_short(segment) {
         return;
@@ -219,8 +254,8 @@ fn place_of(list: &[u32], n: u32) -> Option<usize>
     position_of(list, n)
 }
 
-// Whether the number is the last of the list.
-pub(crate) fn is_last(list: &[u32], n: u32) -> bool
+/// Whether the number is the last of the list. O(1), no memory.
+pub fn is_last(list: &[u32], n: u32) -> bool
     ensures last { IsTrue result → slice_get list.now (length list.now - 1) ≡ Some n }
     ensures some { IsTrue result → 0 < length list.now }
     ensures member { IsTrue result → has list.now n ≡ true }

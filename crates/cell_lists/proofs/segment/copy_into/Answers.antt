@@ -1,7 +1,7 @@
 use Rattle.std.proofs.Common.{◌∙◌, sym, arith}
-use Rattle.label_graph.proofs.SegmentLemmas.{short-is, long-is}
-use Rattle.label_graph.proofs.Exchanged.{copied-short, copied-long}
-use Rattle.label_graph.proofs.segment.copy_into.Goals as goal
+use Rattle.cell_lists.proofs.SegmentLemmas.{short-is, long-is}
+use Rattle.cell_lists.proofs.Exchanged.{copied-short, copied-long}
+use Rattle.cell_lists.proofs.segment.copy_into.Goals as goal
 
 pub returns-then-is_short : goal.returns-then-is_short
 returns-then-is_short c =
