@@ -71,5 +71,5 @@ module _ (es : List (ℕ × ℕ)) (items : List ℕ) where
     pub ends_filled : AreEnds ends (length items)
     ends_filled = record {
       rise = rises;
-      within = λ n h. (let l = f.all in let is = end_is n (omega (arith, l, h)) in let few = before_few es (suc n) in let r = f.room in omega (arith, is, few, r));
+      within = λ n h. (let l = f.all in let is = end_is n (omega (arith, l, h)) in let few = before_few es (suc n) in let r = f.sized in omega (arith, is, few, r));
     }

@@ -44,7 +44,7 @@ pub(crate) fn note_passing<G: Digraph>(
     noted: &mut [u32; 1024],
 ) -> usize
     requires order { from ≤ to }
-    requires room { to ≤ from + length noted.old }
+    requires fits { to ≤ from + length noted.old }
     ensures length { length noted.new ≡ length noted.old }
     ensures within { result ≤ length noted.new }
     ensures noted { HasJust (take result noted.new) (λ m. (from ≤ m) × (m < to) × Passes (G.label_at g.now) test m) }
@@ -61,7 +61,7 @@ pub(crate) fn note_passing<G: Digraph>(
 #[inline(always)]
 pub(crate) fn note_members(set: &Bits, from: u32, to: u32, noted: &mut [u32; 1024]) -> usize
     requires order { from ≤ to }
-    requires room { to ≤ from + length noted.old }
+    requires fits { to ≤ from + length noted.old }
     ensures length { length noted.new ≡ length noted.old }
     ensures within { result ≤ length noted.new }
     ensures noted { HasJust (take result noted.new) (λ m. (from ≤ m) × (m < to) × IsMember set.now.members m) }

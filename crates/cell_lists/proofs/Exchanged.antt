@@ -1,4 +1,4 @@
--- A list that moves into the room of an empty one.
+-- A list that moves into the cells of an empty one.
 use Rattle.std.proofs.Common.{◌≡◌, ℕ, zero, suc, ◌+◌, ◌<◌, ◌≤◌, List, [], ◌∷◌, ◌++◌, refl, sym, ap, ◌∙◌, subst, arith, length, take, drop, set, length-set, length-drop, get_or, inl, inr}
 use Rattle.std.proofs.Math.Seq.{paste}
 use Rattle.std.proofs.lemmas.List.{take_more, take_more_set}
@@ -24,7 +24,7 @@ copied-short cells s r short fits w long = record {
   others = λ u within apart. set-apart cells r u r.first s.first within apart long (omega arith) (omega arith);
 }
 
--- the first n of those numbers stand in the room r, and nothing else is written
+-- the first n of those numbers stand in the cells of r, and nothing else is written
 record IsPasted (old new xs : List ℕ) (n : ℕ) (r : Segment) : Type 0 where
   pub size : length new ≡ length old
   pub copied : take n (drop r.first new) ≡ take n xs
@@ -65,13 +65,13 @@ pub unexchanged : (cells : List ℕ) (s r : Segment) → LiesWithin (length cell
 unexchanged cells s r w_s w_r apart = record {
   size = refl;
   list_within = w_s;
-  room_within = w_r;
+  vacant_within = w_r;
   between = apart;
   list_apart = λ u a b. a;
-  room_apart = λ u a b. b;
+  vacant_apart = λ u a b. b;
   others = λ u within a b. refl;
   list_items = refl;
-  room_items = refl;
+  vacant_items = refl;
   more = omega arith;
 }
 
@@ -80,15 +80,15 @@ pub exchanged : (old new : List ℕ) (s r : Segment) → LiesWithin (length old)
 exchanged old new s r w_s w_r apart c none long larger = record {
   size = c.size;
   list_within = record { fits = omega (arith, w_s.fits); ends = λ l. omega (arith, w_r.ends l, c.size) };
-  room_within = record { fits = omega arith; ends = λ l. omega (arith, w_s.ends l, c.size) };
+  vacant_within = record { fits = omega arith; ends = λ l. omega (arith, w_s.ends l, c.size) };
   between = λ a b. elim (apart b a) [
     | inl h ↦ inr h
     | inr h ↦ inl h
   ];
   list_apart = λ u a b. b;
-  room_apart = λ u a b. a;
+  vacant_apart = λ u a b. a;
   others = λ u within a b. c.others u within b;
   list_items = long-items new (record r { len = s.len }) long ∙ c.copied;
-  room_items = items-none new (record s { len = 0 }) refl ∙ sym (items-none old r none);
+  vacant_items = items-none new (record s { len = 0 }) refl ∙ sym (items-none old r none);
   more = omega arith;
 }

@@ -49,7 +49,7 @@ pub record IsMoved (old new : List ℕ) (s t : Segment) : Type 0 where
   -- and more capacity
   pub reserved : s.reserved < t.reserved
 
--- the numbers of the list s stand in the room r, and nothing else is written
+-- the numbers of the list s stand in the cells of r, and nothing else is written
 pub record IsCopied (old new : List ℕ) (s r : Segment) : Type 0 where
   -- there are as many cells
   pub size : length new ≡ length old
@@ -58,23 +58,23 @@ pub record IsCopied (old new : List ℕ) (s r : Segment) : Type 0 where
   -- each list apart from r has the numbers that it had
   pub others : (u : Segment) → LiesWithin (length old) u → IsApart r u → items_in new u ≡ items_in old u
 
--- the lists s and r, apart from each other, have each other's room as t and q, or their own, and no other is written
+-- the lists s and r, apart from each other, have each other's cells as t and q, or their own, and no other is written
 pub record Exchanges (old new : List ℕ) (s r t q : Segment) : Type 0 where
   -- there are as many cells
   pub size : length new ≡ length old
   -- both lists lie among them
   pub list_within : LiesWithin (length new) t
-  pub room_within : LiesWithin (length new) q
+  pub vacant_within : LiesWithin (length new) q
   -- they are apart from each other
   pub between : IsApart t q
   -- what was apart from both is so still
   pub list_apart : (u : Segment) → IsApart s u → IsApart r u → IsApart t u
-  pub room_apart : (u : Segment) → IsApart s u → IsApart r u → IsApart q u
+  pub vacant_apart : (u : Segment) → IsApart s u → IsApart r u → IsApart q u
   -- and has the same numbers
   pub others : (u : Segment) → LiesWithin (length old) u → IsApart s u → IsApart r u → items_in new u ≡ items_in old u
   -- t has the numbers of s, and q those of r
   pub list_items : items_in new t ≡ items_in old s
-  pub room_items : items_in new q ≡ items_in old r
+  pub vacant_items : items_in new q ≡ items_in old r
   -- t has no less capacity than s
   pub more : s.reserved ≤ t.reserved
 

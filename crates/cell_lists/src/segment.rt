@@ -157,33 +157,33 @@ fn moved(cells: &mut Vec<u32>, segment: Segment, reserved: usize) -> Result<Segm
     })
 }
 
-/// Moves a list into the room of an empty one, which gets its room instead. Where that room isn't larger, nothing is done.
+/// Moves a list into the cells of an empty one, which gets its cells instead. If those aren't more, nothing is done.
 /// O(n) for n numbers, no memory.
-pub fn exchange(cells: &mut Vec<u32>, list: &mut Segment, room: &mut Segment)
+pub fn exchange(cells: &mut Vec<u32>, list: &mut Segment, vacant: &mut Segment)
     requires list { LiesWithin (length cells.old.items) list.old }
-    requires room { LiesWithin (length cells.old.items) room.old }
-    requires apart { IsApart list.old room.old }
-    ensures { Exchanges cells.old.items cells.new.items list.old room.old list.new room.new }
+    requires vacant { LiesWithin (length cells.old.items) vacant.old }
+    requires apart { IsApart list.old vacant.old }
+    ensures { Exchanges cells.old.items cells.new.items list.old vacant.old list.new vacant.new }
 {
-    if room.len > 0 || is_short(room) || room.reserved <= list.reserved {
+    if vacant.len > 0 || is_short(vacant) || vacant.reserved <= list.reserved {
         return;
     }
-    copy_into(cells, *list, *room);
+    copy_into(cells, *list, *vacant);
     let len = list.len;
-    swap(list, room);
+    swap(list, vacant);
     list.len = len;
-    room.len = 0;
+    vacant.len = 0;
 }
 
-// Writes the numbers of a list into the room of another.
-fn copy_into(cells: &mut Vec<u32>, list: Segment, room: Segment)
+// Writes the numbers of a list into the cells of another.
+fn copy_into(cells: &mut Vec<u32>, list: Segment, target: Segment)
     requires list { LiesWithin (length cells.old.items) list }
-    requires room { LiesWithin (length cells.old.items) room }
-    requires long { 2 ≤ room.reserved }
-    requires larger { list.reserved ≤ room.reserved }
-    ensures { IsCopied cells.old.items cells.new.items list room }
+    requires target { LiesWithin (length cells.old.items) target }
+    requires long { 2 ≤ target.reserved }
+    requires larger { list.reserved ≤ target.reserved }
+    ensures { IsCopied cells.old.items cells.new.items list target }
 {
-    let to = room.first as usize;
+    let to = target.first as usize;
     if is_short(&list) {
         cells[to] = list.first;
         return;

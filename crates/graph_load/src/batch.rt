@@ -8,7 +8,7 @@ use crate::hashed::HashedTriple;
 use px_base::{LineFault, LineReader, Memory, Shelf};
 use triples_read::{LineError, SpareTexts, Triple, read_line_with};
 
-/// How many triples are read before they are loaded: so few that there is room for all their texts among the spare ones.
+/// How many triples are read before they are loaded: so few that all their texts fit among the spare ones.
 const BATCH: usize = 16;
 
 /// A triple that was read and isn't loaded yet, and the number of its line.

@@ -285,7 +285,7 @@ fn place_if(places: &mut SmallVec<usize, 1>, step: &Step, place: usize)
 
 // The same of one more step behind those that there are.
 fn note_place(places: &mut SmallVec<usize, 1>, steps: &[Step], step: &Step)
-    requires room { HasRoomFor places.old 1 }
+    requires place { HasRoomFor places.old 1 }
     requires places { places.old.items ≡ node_places (steps_of steps.now) }
     ensures { places.new.items ≡ node_places (steps_of steps.now ++ step_of step.now ∷ []) }
 {

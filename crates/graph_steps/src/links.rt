@@ -150,9 +150,9 @@ fn ends_with(ends: Ends, place: usize, takes: bool) -> Ends
 
 // The step at a place names the node, and may take it away.
 fn note_node(ends: &mut NodeEnds, n: NodeId, place: usize, takes: bool)
-    requires room { 0 < spare ends.old }
+    requires spare { 0 < spare ends.old }
     ensures notes { Notes (λ m. nat_eq m n) takes place ends.old.entries ends.new.entries }
-    ensures room { spare ends.old ≤ spare ends.new + 1 }
+    ensures spare { spare ends.old ≤ spare ends.new + 1 }
 {
     let more = ends_with(noted(ends, n), place, takes);
     match ends.insert(n, more) {
@@ -162,9 +162,9 @@ fn note_node(ends: &mut NodeEnds, n: NodeId, place: usize, takes: bool)
 }
 
 fn note_both(ends: &mut NodeEnds, u: NodeId, v: NodeId, place: usize)
-    requires room { 2 ≤ spare ends.old }
+    requires spare { 2 ≤ spare ends.old }
     ensures notes { Notes (λ m. nat_eq m u || nat_eq m v) false place ends.old.entries ends.new.entries }
-    ensures room { spare ends.old ≤ spare ends.new + 2 }
+    ensures spare { spare ends.old ≤ spare ends.new + 2 }
 {
     note_node(ends, u, place, false);
     note_node(ends, v, place, false);
@@ -172,9 +172,9 @@ fn note_both(ends: &mut NodeEnds, u: NodeId, v: NodeId, place: usize)
 
 // The nodes that the step at a place names.
 fn note_ends(ends: &mut NodeEnds, step: &Step, place: usize)
-    requires room { 2 ≤ spare ends.old }
+    requires spare { 2 ≤ spare ends.old }
     ensures notes { Notes (λ m. names m (step_of step.now)) (is_drop (step_of step.now)) place ends.old.entries ends.new.entries }
-    ensures room { spare ends.old ≤ spare ends.new + 2 }
+    ensures spare { spare ends.old ≤ spare ends.new + 2 }
 {
     match step {
         Step::Node(_) => (),
@@ -234,9 +234,9 @@ fn lead_ends(links: &mut StepLinks, ends: &NodeEnds, steps: &[Step], step: &Step
 fn note_first(ends: &mut NodeEnds, steps: &[Step])
     requires ends { AreEnds (steps_of steps.now) ends.old.entries }
     requires some { 0 < length steps.now }
-    requires room { 2 ≤ spare ends.old }
+    requires spare { 2 ≤ spare ends.old }
     ensures noted { AreNoted (steps_of steps.now) ends.new.entries }
-    ensures room { spare ends.old ≤ spare ends.new + 2 }
+    ensures spare { spare ends.old ≤ spare ends.new + 2 }
 {
     if steps.len() == 1 {
         note_ends(ends, &steps[0], 0);
@@ -249,7 +249,7 @@ fn note_next(ends: &mut NodeEnds, links: &mut StepLinks, steps: &[Step], step: &
     requires links { AreLinks (steps_of steps.now) links.old.items }
     requires some { 0 < length steps.now }
     requires few { length steps.now < nowhere }
-    requires room { 4 ≤ spare ends.old }
+    requires spare { 4 ≤ spare ends.old }
     requires place { HasRoomFor links.old 1 }
     ensures ends { AreEnds (steps_of steps.now ++ step_of step.now ∷ []) ends.new.entries }
     ensures links { AreLinks (steps_of steps.now ++ step_of step.now ∷ []) links.new.items }

@@ -35,7 +35,7 @@ const ROWS: &[(&[Plain], Outcome)] = &[
     (&[Link(0, 1)], Ok(Verdict::Same)),
     (&[Link(0, 1), Link(0, 2)], Ok(Verdict::Same)),
     (&[Link(0, 1), Link(0, 9)], Err(Refusal::NoNode)),
-    // three edges, and no fourth; once one is taken away there is room
+    // three edges, and no fourth; once one is taken away it fits
     (&[Link(1, 2)], Ok(Verdict::New)),
     (&[Link(1, 2), Link(2, 1)], Err(Refusal::Limit)),
     (&[Link(1, 2), Unlink(0, 1), Link(2, 1)], Ok(Verdict::New)),

@@ -42,8 +42,8 @@ has_effect (node t) g h limits can e busy =
 has_effect (link u v) g h limits can e busy =
     let outer = passes (is_live g u && is_live g v) (if edge_fits g limits u v then Ok (with_edge g u v) else Err Limit) NoNode h e in
     let fits = (passes (edge_fits g limits u v) (Ok (with_edge g u v)) Limit h outer.1).0 in
-    let room : nat_lt (set.len g.edges) limits.edges ≡ true = sym (ap (λ b. b || nat_lt (set.len g.edges) limits.edges) busy) ∙ fits in
-    (can.0, can.1, busy, under (set.len g.edges) limits.edges (2 ^ 30) room limits.edges_bounded)
+    let few : nat_lt (set.len g.edges) limits.edges ≡ true = sym (ap (λ b. b || nat_lt (set.len g.edges) limits.edges) busy) ∙ fits in
+    (can.0, can.1, busy, under (set.len g.edges) limits.edges (2 ^ 30) few limits.edges_bounded)
 has_effect (unlink u v) g h limits can e busy = can.2
 has_effect (drop u) g h limits can e busy = can
 has_effect (relabel u t) g h limits can e busy =

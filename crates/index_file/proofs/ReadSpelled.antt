@@ -70,12 +70,12 @@ record ReadsSo (limits : Limits) (ls : List Line) (p : ReadPlace) (f : SavedFile
   reads : ReadsFrom limits ls p outcome
   is : IsReadOr f outcome
 
-file_room : (p : ReadPlace) (l : Line) → IsWithinIndexFile p l ⊎ (¬ IsWithinIndexFile p l)
-file_room p l = elim (cases_lt LINE_BYTES (length l.text)) [
+file_fits : (p : ReadPlace) (l : Line) → IsWithinIndexFile p l ⊎ (¬ IsWithinIndexFile p l)
+file_fits p l = elim (cases_lt LINE_BYTES (length l.text)) [
   | inl long ↦ inr (λ w. let a = w.0 in omega (arith, long, a))
-  | inr fits ↦ elim (cases_lt GRAPH_BYTES (p.bytes + length l.text + length l.end)) [
+  | inr short ↦ elim (cases_lt GRAPH_BYTES (p.bytes + length l.text + length l.end)) [
     | inl long ↦ inr (λ w. let a = w.1 in omega (arith, long, a))
-    | inr room ↦ inl (fits, room)
+    | inr fits ↦ inl (short, fits)
   ]
 ]
 
@@ -87,7 +87,7 @@ so_from limits (l ∷ ls) p f h =
     let mid = h.takes_all.1 in
     let says = h.takes_all.2 in
     let step = h.takes_all.3 in
-    elim (file_room p l) [
+    elim (file_fits p l) [
       | inl within ↦ elim (cases_Bool (exceeds limits s p.reading)) [
         | inl past_it ↦ record { outcome = past_limit (p.lines + 1); reads = inr (within, over (record { statement = s; says = says; over = past_it })); is = is_past (p.lines + 1) }
         | inr fits ↦ (

@@ -271,7 +271,7 @@ module _ (g : Graph) (k : ℕ) (w : IsGraph g) (few : length g.allocated ≤ 429
   abbrev edge_line_at : ℕ → ℕ → List ℕ
   edge_line_at u v = if has_edge g u v then edge_line u v else []
 
-  -- there is room for one more
+  -- one more fits
   one_left : (u v : ℕ) → u < length g.allocated → v < length g.allocated → has_edge g u v ≡ true → length (pairs_to g u v) < length (pairs_below g (length g.allocated))
   one_left u v hu hv h =
       let a = below_rises g (suc u) (length g.allocated) (omega (arith, hu)) in

@@ -175,13 +175,13 @@ module _ (g : Graph) (w : IsGraph g) (few : length g.allocated ≤ 4294967295) (
   -- the lines of a view
   pub view_lead : k ≤ 8 → length done < n → follows k (last_via done) via ≡ true
       → Leads (view_text (shape_of g) r via) (views_read k g.allocated pairs n 0 done) (views_read k g.allocated pairs n 0 (done ++ ranked ∷ []))
-  view_lead low room next =
+  view_lead low fits next =
       let name = named k (last_via done) via low next in
       leads_line (codes "view " ++ via_word via) (rank_lines (shape_of g) r) (view via) (views_read k g.allocated pairs n 0 done)
       (views_read k g.allocated pairs n (live_in g.allocated) (done ++ record { via = via; ranks = [] } ∷ [])) (views_read k g.allocated pairs n 0 (done ++ ranked ∷ []))
       (uncut_both (codes "view ") (via_word via) (uncut_above (codes "view ") refl) name.uncut)
       (via_word via, refl, name.names)
-      (view_taken (ap (λ b. b && follows k (last_via done) via) (lt-ltb (length done) n room) ∙ next))
+      (view_taken (ap (λ b. b && follows k (last_via done) via) (lt-ltb (length done) n fits) ∙ next))
       ranks_lead
 
   -- ---- what it holds

@@ -50,7 +50,7 @@ impl NodeNames {
         }
     }
 
-    /// How many numbers have room for a name. O(1), no memory.
+    /// How many numbers may have a name. O(1), no memory.
     pub fn len(&self) -> usize
         ensures { result ≡ length self.now }
     {

@@ -1,4 +1,4 @@
--- Rows of which two exchange the room of a list, or the room of an empty list is written.
+-- Rows of which two exchange the cells of a list, or the cells of an empty list are written.
 use Rattle.std.proofs.Common.{◌≡◌, ◌≢◌, false, ℕ, zero, suc, ◌-◌, ◌<◌, ◌≤◌, List, [], ◌∷◌, Option, None, Some, length, take, refl, sym, ap, ◌∙◌, subst, arith, get_or, set, length-set, ◌⊎◌, inl, inr, true≢false}
 use Rattle.std.specs.Prelude.{slice_get, is_some}
 use Rattle.std.proofs.lemmas.List.{get_or-set_same, get_or-set_other, length-map}
@@ -20,8 +20,8 @@ abbrev pub list_at : List Row → ℕ → Segment
 list_at rows i = get_or (segments_of rows) i nowhere
 
 -- how many more fit
-abbrev room_of : List ℕ → Segment → ℕ
-room_of cells s = s.reserved - length (items_in cells s)
+abbrev free_cells : List ℕ → Segment → ℕ
+free_cells cells s = s.reserved - length (items_in cells s)
 
 children-by : (cells : List ℕ) (rows : List Row) (w : ℕ) → children_of (nodes_in cells rows) w ≡ items_in cells (list_at rows (twice w))
 children-by cells [] w = refl
@@ -33,12 +33,12 @@ parents-by cells [] w = refl
 parents-by cells (r ∷ rs) zero = refl
 parents-by cells (r ∷ rs) (suc w) = parents-by cells rs w
 
-child_reserved-by : (cells : List ℕ) (rows : List Row) (w : ℕ) → child_reserved (nodes_in cells rows) w ≡ room_of cells (list_at rows (twice w))
+child_reserved-by : (cells : List ℕ) (rows : List Row) (w : ℕ) → child_reserved (nodes_in cells rows) w ≡ free_cells cells (list_at rows (twice w))
 child_reserved-by cells [] w = refl
 child_reserved-by cells (r ∷ rs) zero = refl
 child_reserved-by cells (r ∷ rs) (suc w) = child_reserved-by cells rs w
 
-parent_reserved-by : (cells : List ℕ) (rows : List Row) (w : ℕ) → parent_reserved (nodes_in cells rows) w ≡ room_of cells (list_at rows (suc (twice w)))
+parent_reserved-by : (cells : List ℕ) (rows : List Row) (w : ℕ) → parent_reserved (nodes_in cells rows) w ≡ free_cells cells (list_at rows (suc (twice w)))
 parent_reserved-by cells [] w = refl
 parent_reserved-by cells (r ∷ rs) zero = refl
 parent_reserved-by cells (r ∷ rs) (suc w) = parent_reserved-by cells rs w
@@ -140,27 +140,27 @@ module _ (cells more : List ℕ) (rows new : List Row) (k l : ℕ) (t q : Segmen
 
   apart-second : (j : ℕ) → j ≢ l → IsApart q (list_at new j)
   apart-second = each (λ j u. j ≢ l → IsApart q u) (λ _. turned t q e.between) (λ ne. absurd (ne refl))
-      (λ j a b _. e.room_apart (list_at rows j) (apart-at cells rows h k j (λ f. a (sym f))) (apart-at cells rows h l j (λ f. b (sym f))))
+      (λ j a b _. e.vacant_apart (list_at rows j) (apart-at cells rows h k j (λ f. a (sym f))) (apart-at cells rows h l j (λ f. b (sym f))))
 
   apart-other : (i : ℕ) → i ≢ k → i ≢ l → (j : ℕ) → i ≢ j → IsApart (list_at rows i) (list_at new j)
   apart-other i a b = each (λ j u. i ≢ j → IsApart (list_at rows i) u)
       (λ _. turned t (list_at rows i) (e.list_apart (list_at rows i) (apart-at cells rows h k i (λ f. a (sym f))) (apart-at cells rows h l i (λ f. b (sym f)))))
-      (λ _. turned q (list_at rows i) (e.room_apart (list_at rows i) (apart-at cells rows h k i (λ f. a (sym f))) (apart-at cells rows h l i (λ f. b (sym f)))))
+      (λ _. turned q (list_at rows i) (e.vacant_apart (list_at rows i) (apart-at cells rows h k i (λ f. a (sym f))) (apart-at cells rows h l i (λ f. b (sym f)))))
       (λ j _ _ ne. apart-at cells rows h i j ne)
 
   pub held-exchanged : AreHeld more new
   held-exchanged = held-by more new
-      (each (λ _ u. LiesWithin (length more) u) e.list_within e.room_within (λ i _ _. subst (λ n. LiesWithin n (list_at rows i)) (sym e.size) (within-at cells rows h i)))
+      (each (λ _ u. LiesWithin (length more) u) e.list_within e.vacant_within (λ i _ _. subst (λ n. LiesWithin n (list_at rows i)) (sym e.size) (within-at cells rows h i)))
       (each (λ i u. (j : ℕ) → i ≢ j → IsApart u (list_at new j)) (λ j ne. apart-first j (λ f. ne (sym f))) (λ j ne. apart-second j (λ f. ne (sym f))) apart-other)
 
   other-items : (i : ℕ) → i ≢ k → i ≢ l → items_in more (list_at rows i) ≡ items_in cells (list_at rows i)
   other-items i a b = e.others (list_at rows i) (within-at cells rows h i) (apart-at cells rows h k i (λ f. a (sym f))) (apart-at cells rows h l i (λ f. b (sym f)))
 
   items-same : (i : ℕ) → items_in more (list_at new i) ≡ items_in cells (list_at rows i)
-  items-same = each (λ i u. items_in more u ≡ items_in cells (list_at rows i)) e.list_items e.room_items other-items
+  items-same = each (λ i u. items_in more u ≡ items_in cells (list_at rows i)) e.list_items e.vacant_items other-items
 
-  room-kept : (i : ℕ) → i ≢ l → room_of cells (list_at rows i) ≤ room_of more (list_at new i)
-  room-kept = each (λ i u. i ≢ l → room_of cells (list_at rows i) ≤ room_of more u)
+  free-kept : (i : ℕ) → i ≢ l → free_cells cells (list_at rows i) ≤ free_cells more (list_at new i)
+  free-kept = each (λ i u. i ≢ l → free_cells cells (list_at rows i) ≤ free_cells more u)
       (λ _. omega (arith, e.more, ap length e.list_items)) (λ ne. absurd (ne refl)) (λ i a b _. omega (arith, ap length (other-items i a b)))
 
   pub same-exchanged : (shown : ℕ) → length new ≡ length rows → row_labels new ≡ row_labels rows → ((w : ℕ) → IsKept shown (nodes_in cells rows) w → (twice w ≢ l) × (suc (twice w) ≢ l))
@@ -170,8 +170,8 @@ module _ (cells more : List ℕ) (rows new : List Row) (k l : ℕ) (t q : Segmen
     labels = ap (take shown) (labels-by more new ∙ labels ∙ sym (labels-by cells rows));
     children = λ w. children-by more new w ∙ items-same (twice w) ∙ sym (children-by cells rows w);
     parents = λ w. parents-by more new w ∙ items-same (suc (twice w)) ∙ sym (parents-by cells rows w);
-    child_reserves = λ w live. omega (arith, room-kept (twice w) (gone w live).0, child_reserved-by cells rows w, child_reserved-by more new w);
-    parent_reserves = λ w live. omega (arith, room-kept (suc (twice w)) (gone w live).1, parent_reserved-by cells rows w, parent_reserved-by more new w);
+    child_reserves = λ w live. omega (arith, free-kept (twice w) (gone w live).0, child_reserved-by cells rows w, child_reserved-by more new w);
+    parent_reserves = λ w live. omega (arith, free-kept (suc (twice w)) (gone w live).1, parent_reserved-by cells rows w, parent_reserved-by more new w);
   }
 
 -- a list of one node
@@ -203,7 +203,7 @@ nodes-same cells more (r ∷ rs) same i =
     }
     ∷ nodes-same cells more rs (λ j. same (suc (suc j))) i
 
--- the room of the list k is written, which keeps its numbers
+-- the cells of the list k are written, which keeps its numbers
 module _ (cells more : List ℕ) (rows : List Row) (k : ℕ) (s : Segment) (is : list_at rows k ≡ s) (w : Writes cells more s s) (same : items_in more s ≡ items_in cells s) (h : AreHeld cells rows) where
   pub held-noted : AreHeld more rows
   held-noted = held-by more rows
@@ -241,8 +241,8 @@ module _ (cells : List ℕ) (side : Side) (rows : List Row) (u g : ℕ) (a b : R
   pub list-fits : LiesWithin (length cells) s
   list-fits = subst (LiesWithin (length cells)) first-list (within-at cells rows o.held (list_place side u))
 
-  pub room-fits : LiesWithin (length cells) m
-  room-fits = subst (LiesWithin (length cells)) second-list (within-at cells rows o.held (list_place side g))
+  pub vacant-fits : LiesWithin (length cells) m
+  vacant-fits = subst (LiesWithin (length cells)) second-list (within-at cells rows o.held (list_place side g))
 
   pub lists-apart : IsApart s m
   lists-apart = subst (λ l. IsApart l m) first-list (subst (IsApart (list_at rows (list_place side u))) second-list (apart-at cells rows o.held (list_place side u) (list_place side g) places-apart))

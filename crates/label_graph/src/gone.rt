@@ -1,4 +1,4 @@
-// Gone nodes whose lists still have room.
+// Gone nodes whose lists still have cells.
 ghost use Rattle.std.specs.Prelude.{◌≡◌, length};
 ghost use Rattle.cell_lists.specs.Segments.{items_in, LiesWithin, Writes};
 
@@ -7,7 +7,7 @@ use cell_lists::{Segment, is_short, more_reserved, spare};
 use px_base::NodeId;
 use std::marker::Model;
 
-/// How many sizes of room there are: the powers of two that fit 32 bits.
+/// How many capacities there are: the powers of two that fit 32 bits.
 const SIZES: usize = 32;
 
 /// How many there are of children and of parents together.
@@ -16,8 +16,8 @@ const PLACES: usize = 2 * SIZES;
 /// What stands for no node.
 const NOBODY: NodeId = u32::MAX;
 
-/// For each size of room, of children and of parents, the gone node whose list got it last. The first cell of that list
-/// has the number of the node that got such room before, and so on, so that these lists take no memory. Nothing is
+/// For each capacity, of children and of parents, the gone node whose list got it last. The first cell of that list
+/// has the number of the node that got such a capacity before, and so on, so that these lists take no memory. Nothing is
 /// promised of a number that is found: the caller checks what it leads to.
 #[derive(Drop)]
 pub(crate) struct GoneLists {
@@ -40,7 +40,7 @@ impl GoneLists {
         }
     }
 
-    /// The first gone node with the room that a list wants where no more than that many numbers fit.
+    /// The first gone node with the capacity that a list wants where no more than that many numbers fit.
     pub(crate) fn first_for(&self, list: &Segment, side: Side, taken: usize) -> NodeId {
         if spare(list) > taken {
             return NOBODY;

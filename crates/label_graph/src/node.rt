@@ -54,8 +54,8 @@ const SPARE: Row = Row {
 /// The nodes, each with its label and with its neighbours, each once. Lists of neighbours lie in one array, so that no
 /// node takes an allocation of its own. A node takes 32 bytes. A list that never had two numbers takes no more; any
 /// other takes 4 to 16 bytes for each of the most neighbours that it ever had, and keeps them when it shrinks. Once its
-/// node is gone, its room goes to a list of the same kind, children or parents, that needs as much. What is noted of such
-/// room takes 256 bytes in all. So the cells depend on how much was in use at once, not on how many nodes there ever were.
+/// node is gone, its cells go to a list of the same kind, children or parents, that needs as much. What is noted of such
+/// cells takes 256 bytes in all. So the cells depend on how much was in use at once, not on how many nodes there ever were.
 /// Behind the rows that are shown lie those of nodes to come, with the capacity that is reserved for their edges.
 pub(crate) struct Nodes {
     rows: Vec<Row>,
@@ -266,7 +266,7 @@ impl Nodes {
         take_out(&mut self.cells, &mut self.rows[v as usize].parents, u);
     }
 
-    /// Takes the label of a node away, so that the node is gone. The room of its lists is used again.
+    /// Takes the label of a node away, so that the node is gone. The cells of its lists are used again.
     pub(crate) fn clear_label(&mut self, n: NodeId)
         requires { n < self.old.shown }
         ensures labels { labels_of self.new.shown self.new.nodes ≡ slice_set (labels_of self.old.shown self.old.nodes) n None }
@@ -280,7 +280,7 @@ impl Nodes {
         self.offer(n, Side::Parents);
     }
 
-    /// Writes the number of a node's label, or none, which leaves the node gone and the room of its lists with it.
+    /// Writes the number of a node's label, or none, which leaves the node gone and the cells of its lists with it.
     pub(crate) fn write_label(&mut self, n: NodeId, label: Option<u32>)
         requires { n < self.old.shown }
         ensures labels { labels_of self.new.shown self.new.nodes ≡ slice_set (labels_of self.old.shown self.old.nodes) n label }
@@ -293,9 +293,9 @@ impl Nodes {
     }
 }
 
-// Room of gone nodes, and its use.
+// Cells of gone nodes, and their use.
 impl Nodes {
-    // Puts the room of a gone node's list in front of the others.
+    // Puts the cells of a gone node's list in front of the others.
     fn offer(&mut self, n: NodeId, side: Side)
         ensures { self.new ≡ self.old }
     {
@@ -317,7 +317,7 @@ impl Nodes {
         Some(g)
     }
 
-    // Moves a list of a node, where no more than that many numbers fit beside its own, to the room of a gone node's.
+    // Moves a list of a node, where no more than that many numbers fit beside its own, to the cells of a gone node's.
     fn reuse(&mut self, u: NodeId, side: Side, taken: usize)
         requires { u < length self.old.nodes }
         ensures same { SameNodes self.old.shown self.old.nodes self.new.nodes }
@@ -327,11 +327,11 @@ impl Nodes {
         let Some(g) = self.gone_beside(u, self.gone.first_for(&list, side, taken)) else {
             return;
         };
-        let mut room = self.rows[g as usize].list(side);
-        self.gone.withdraw(&self.cells, &room, side);
-        exchange(&mut self.cells, &mut list, &mut room);
+        let mut vacant = self.rows[g as usize].list(side);
+        self.gone.withdraw(&self.cells, &vacant, side);
+        exchange(&mut self.cells, &mut list, &mut vacant);
         self.rows[u as usize].set_list(side, list);
-        self.rows[g as usize].set_list(side, room);
+        self.rows[g as usize].set_list(side, vacant);
         self.offer(g, side);
     }
 }

@@ -80,7 +80,7 @@ fn come_and_go_often<L: Ledger>(rt: &impl Abort, alloc: Global, blank: Blank) ->
         come_and_go(rt, alloc, &mut graph, &mut steps)?;
     }
     assert!(rt; graph.created() == 2000 && graph.node_count() == 0);
-    // four lists of two, each with room for four
+    // four lists of two, each with capacity for four
     assert!(rt; graph.cell_count() == 16);
     Ok(())
 }

@@ -139,8 +139,8 @@ module _ (P : ℕ → Type 0) (m : List (List Bool)) (k : List (ℕ × ℕ)) (s 
         more = omega arith;
       }
 
-pub room_on : (states width : ℕ) (m m2 : List (List Bool)) → ((s : ℕ) → length (row m2 s) ≡ length (row m s)) → HasRows states width m → HasRows states width m2
-room_on states width m m2 same h s below = let l = h s below in omega (arith, same s)
+pub wide_on : (states width : ℕ) (m m2 : List (List Bool)) → ((s : ℕ) → length (row m2 s) ≡ length (row m s)) → HasRows states width m → HasRows states width m2
+wide_on states width m m2 same h s below = let l = h s below in omega (arith, same s)
 
 -- the measure falls: fewer are listed, and each that is new is marked
 pub falls : (k ks k2 n : ℕ) (m m2 l l2 : ℕ) → ks ≡ k + n → 0 < n → k2 + m ≡ k + m2 → m ≤ m2 → l2 ≡ l → m2 ≤ l2 → k2 + 2 * (l2 - m2) < ks + 2 * (l - m)

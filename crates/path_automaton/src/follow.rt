@@ -97,7 +97,7 @@ fn mark_among<G: Digraph, S: Scope>(
     nodes: &[NodeId],
 ) -> Result<(), Memory>
     requires nodes { (c : ℕ) → has nodes.now c ≡ true → IsSome (G.label_at g.now c) }
-    requires room { G.span g.now + 1 ≤ length row.old }
+    requires wide { G.span g.now + 1 ≤ length row.old }
     ensures gathers { OnOk result (Gathers (PassesAmong G.Digraph g.now (S.keeps scope.now) test nodes.now) row.old row.new found.old.items found.new.items) }
     ensures marked { OnOk result ((c : ℕ) → IsTrue (has nodes.now c) → PassesWithin G.Digraph g.now (S.keeps scope.now) test c → IsSet row.new c) }
 {
@@ -120,7 +120,7 @@ fn mark_next<G: Digraph, S: Scope>(
     place: u32,
 ) -> Result<(), Memory>
     requires place { IsPlaceWithin G.Digraph g.now (S.keeps scope.now) place }
-    requires room { G.span g.now + 1 ≤ length row.old }
+    requires wide { G.span g.now + 1 ≤ length row.old }
     ensures gathers { OnOk result (Gathers (NextWithin G.Digraph g.now (S.keeps scope.now) test place) row.old row.new found.old.items found.new.items) }
     ensures marked { OnOk result ((c : ℕ) → NextWithin G.Digraph g.now (S.keeps scope.now) test place c → IsSet row.new c) }
 {
@@ -142,7 +142,7 @@ pub(crate) fn follow<G: Digraph, S: Scope>(
     places: &[u32],
 ) -> Result<(), Memory>
     requires places { ArePlacesWithin G.Digraph g.now (S.keeps scope.now) places.now }
-    requires room { G.span g.now + 1 ≤ length row.old }
+    requires wide { G.span g.now + 1 ≤ length row.old }
     ensures gathers { OnOk result (Gathers (NextOfWithin G.Digraph g.now (S.keeps scope.now) test places.now) row.old row.new found.old.items found.new.items) }
     ensures marked { OnOk result ((v c : ℕ) → IsTrue (has places.now v) → NextWithin G.Digraph g.now (S.keeps scope.now) test v c → IsSet row.new c) }
 {

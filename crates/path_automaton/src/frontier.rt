@@ -20,7 +20,7 @@ pub(crate) struct Frontier {
     pub shared: Bits,
 }
 
-/// Puts a place behind the others where there is no room for it. It stays out of the loops that mark.
+/// Puts a place behind the others where none is free. It stays out of the loops that mark.
 #[cold]
 #[inline(never)]
 fn push_more(found: &mut Vec<u32>, place: u32) -> Result<(), Memory>
@@ -107,7 +107,7 @@ impl Frontier {
         states: usize,
         width: usize,
     ) -> Result<Frontier, Memory>
-        ensures room { IfOk result (λ f. HasRows states width f.rows.items) }
+        ensures wide { IfOk result (λ f. HasRows states width f.rows.items) }
         ensures unmarked { IfOk result (λ f. (s v : ℕ) → IsMarked f.rows.items s v → ⊥) }
         ensures none { IfOk result (λ f. f.worklist ≡ []) }
     {
@@ -131,7 +131,7 @@ impl Frontier {
         places: &[u32],
     ) -> Result<(), Memory>
         requires there { state < length self.old.rows.items }
-        requires room { (v : ℕ) → IsTrue (has places.now v) → v < length (row self.old.rows.items state) }
+        requires wide { (v : ℕ) → IsTrue (has places.now v) → v < length (row self.old.rows.items state) }
         ensures spreads { OnOk result (SpreadsAt state (λ v. IsTrue (has places.now v)) self.old self.new) }
         ensures marked { OnOk result ((v : ℕ) → IsTrue (has places.now v) → IsMarked self.new.rows.items state v) }
     {

@@ -30,7 +30,7 @@ fn advance<G: Digraph, S: Scope>(
 ) -> Result<(), Memory>
     requires there { state < length frontier.old.rows.items }
     requires places { ArePlacesWithin G.Digraph g.now (S.keeps scope.now) places.now }
-    requires room { G.span g.now + 1 ≤ length (row frontier.old.rows.items state) }
+    requires wide { G.span g.now + 1 ≤ length (row frontier.old.rows.items state) }
     ensures spreads { OnOk result (SpreadsAt state (NextOfWithin G.Digraph g.now (S.keeps scope.now) test places.now) frontier.old frontier.new) }
     ensures marked { OnOk result ((c : ℕ) → NextOfWithin G.Digraph g.now (S.keeps scope.now) test places.now c
         → IsMarked frontier.new.rows.items state c) }
@@ -62,7 +62,7 @@ fn read<G: Digraph, S: Scope>(
 ) -> Result<(), Memory>
     requires state { state < length program.now }
     requires places { ArePlacesWithin G.Digraph g.now (S.keeps scope.now) places.now }
-    requires room { HasRows (length program.now) (G.span g.now + 1) frontier.old.rows.items }
+    requires wide { HasRows (length program.now) (G.span g.now + 1) frontier.old.rows.items }
     ensures spreads { OnOk result (Spreads (SucceedsWithin G.Digraph g.now (S.keeps scope.now) program.now state places.now) frontier.old frontier.new) }
     ensures marked { OnOk result (IsNoFork (state_at program.now state)
         → AreMarked (SucceedsWithin G.Digraph g.now (S.keeps scope.now) program.now state places.now) frontier.new) }
@@ -98,7 +98,7 @@ fn enter<G: Digraph, S: Scope>(
 ) -> Result<(), Memory>
     requires state { state < length program.now }
     requires places { ArePlacesWithin G.Digraph g.now (S.keeps scope.now) places.now }
-    requires room { HasRows (length program.now) (G.span g.now + 1) frontier.old.rows.items }
+    requires wide { HasRows (length program.now) (G.span g.now + 1) frontier.old.rows.items }
     ensures spreads { OnOk result (Spreads (EntersWithin G.Digraph g.now (S.keeps scope.now) program.now state places.now) frontier.old frontier.new) }
     ensures entered { OnOk result (IsEnteredWithin G.Digraph g.now (S.keeps scope.now) program.now state places.now frontier.new.rows.items) }
 {
@@ -124,7 +124,7 @@ fn fork<G: Digraph, S: Scope>(
     requires first { states.0 < length program.now }
     requires second { states.1 < length program.now }
     requires places { ArePlacesWithin G.Digraph g.now (S.keeps scope.now) places.now }
-    requires room { HasRows (length program.now) (G.span g.now + 1) frontier.old.rows.items }
+    requires wide { HasRows (length program.now) (G.span g.now + 1) frontier.old.rows.items }
     ensures spreads { OnOk result (Spreads (λ s c. EntersWithin G.Digraph g.now (S.keeps scope.now) program.now states.0 places.now s c
         ⊎ EntersWithin G.Digraph g.now (S.keeps scope.now) program.now states.1 places.now s c) frontier.old frontier.new) }
     ensures first { OnOk result (IsEnteredWithin G.Digraph g.now (S.keeps scope.now) program.now states.0 places.now frontier.new.rows.items) }
@@ -146,7 +146,7 @@ fn visit<G: Digraph, S: Scope>(
 ) -> Result<(), Memory>
     requires state { state < length program.now }
     requires places { ArePlacesWithin G.Digraph g.now (S.keeps scope.now) places.now }
-    requires room { HasRows (length program.now) (G.span g.now + 1) frontier.old.rows.items }
+    requires wide { HasRows (length program.now) (G.span g.now + 1) frontier.old.rows.items }
     ensures spreads { OnOk result (Spreads (MarksWithin G.Digraph g.now (S.keeps scope.now) program.now state places.now) frontier.old frontier.new) }
     ensures marked { OnOk result (IsNoFork (state_at program.now state)
         → AreMarked (SucceedsWithin G.Digraph g.now (S.keeps scope.now) program.now state places.now) frontier.new) }

@@ -145,10 +145,10 @@ abbrev pub found_text : Option SessionOf → List ℕ
 found_text None = []
 found_text (Some s) = s.text
 
--- a part of the list, from the place `first` on, lies at the front of the new list, as much as there is room for, and what lies
+-- a part of the list, from the place `first` on, lies at the front of the new list, as much as fits, and what lies
 -- behind it stays
 pub record IsCopied {X : Type 0} (list : List X) (first : ℕ) (old new : List X) (count : ℕ) : Type 0 where
-  -- as much is copied as is left from that place on, or as there is room for
+  -- as much is copied as is left from that place on, or as fits
   pub count_is : count ≡ min (length list - first) (length old)
   -- this part lies at the front, and what lies behind it stays
   pub new_is : new ≡ take count (drop first list) ++ drop count old

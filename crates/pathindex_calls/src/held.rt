@@ -179,7 +179,7 @@ impl Held {
         }
     }
 
-    /// Copies the answers that were found last, from the place `first` on, as many as there is room for, and says how many.
+    /// Copies the answers that were found last, from the place `first` on, as many as fit, and says how many.
     pub fn copy_nodes(&mut self, first: usize, out: &mut [NodeId]) -> usize
         ensures { CopiesFound found_nodes first self.old self.new out.old out.new result }
     {

@@ -20,10 +20,10 @@ feedless next None n over = tt
 feedless [] (Some y) n over = subst (λ z. slice_get z 0 ≢ Some 10) (sym (over refl)) n
 feedless (b ∷ bs) (Some y) n over = n
 
-pub takes-return : (room : ℕ) (window next : List ℕ) (left rest : Option (List ℕ)) → 0 < room → slice_get window 0 ≡ Some 13
+pub takes-return : (most : ℕ) (window next : List ℕ) (left rest : Option (List ℕ)) → 0 < most → slice_get window 0 ≡ Some 13
     → Keeps (prepend_known (drop 1 window) left) (prepend_known next rest) → (next ≡ [] → IsAtEnd rest) → slice_get next 0 ≢ Some 10
-    → TakesEnd room Return (prepend_known window left) (prepend_known next rest)
-takes-return room window next left rest h e k over n = record { fits = h; observable = after-return window next left rest e k; whole = feedless next rest n over }
+    → TakesEnd most Return (prepend_known window left) (prepend_known next rest)
+takes-return most window next left rest h e k over n = record { fits = h; observable = after-return window next left rest e k; whole = feedless next rest n over }
 
 after-both : (window next : List ℕ) (left rest : Option (List ℕ)) → slice_get window 0 ≡ Some 13 → Keeps (prepend_known (drop 1 window) left) (prepend_known next rest)
     → slice_get next 0 ≡ Some 10 → Consumes (prepend_known window left) (prepend_known (drop 1 next) rest) (13 ∷ 10 ∷ [])
@@ -31,15 +31,15 @@ after-both window next left rest e k f =
     Consumes-trans (prepend_known window left) (prepend_known next rest) (prepend_known (drop 1 next) rest) (13 ∷ []) (10 ∷ [])
     (after-return window next left rest e k) (consumes-part rest next (10 ∷ []) (drop 1 next) (first-split next 10 f))
 
--- LF behind CR is the byte that passes the room
-pub both-pass : (room : ℕ) (window next : List ℕ) (left rest : Option (List ℕ)) → room < 2 → slice_get window 0 ≡ Some 13
-    → Keeps (prepend_known (drop 1 window) left) (prepend_known next rest) → slice_get next 0 ≡ Some 10 → EndPasses room (prepend_known window left)
-both-pass room window next left rest h e k f = record { end = ReturnFeed; rest = prepend_known (drop 1 next) rest; long = h; observable = after-both window next left rest e k f }
+-- LF behind CR is one byte too many
+pub both-pass : (most : ℕ) (window next : List ℕ) (left rest : Option (List ℕ)) → most < 2 → slice_get window 0 ≡ Some 13
+    → Keeps (prepend_known (drop 1 window) left) (prepend_known next rest) → slice_get next 0 ≡ Some 10 → EndPasses most (prepend_known window left)
+both-pass most window next left rest h e k f = record { end = ReturnFeed; rest = prepend_known (drop 1 next) rest; long = h; observable = after-both window next left rest e k f }
 
--- there is no room for the first byte of the end
-pub first-passes : (room b : ℕ) (window : List ℕ) (left : Option (List ℕ)) → room ≡ 0 → IsStopped window → slice_get window 0 ≡ Some b → EndPasses room (prepend_known window left)
-first-passes room b [] left z p e = cc
-first-passes room b (x ∷ xs) left z (inl p) e =
+-- the first byte of the end is one too many
+pub first-passes : (most b : ℕ) (window : List ℕ) (left : Option (List ℕ)) → most ≡ 0 → IsStopped window → slice_get window 0 ≡ Some b → EndPasses most (prepend_known window left)
+first-passes most b [] left z p e = cc
+first-passes most b (x ∷ xs) left z (inl p) e =
     record { end = Feed; rest = prepend_known xs left; long = omega arith; observable = consumes-part left (x ∷ xs) (10 ∷ []) xs (ap (λ y. y ∷ xs) p) }
-first-passes room b (x ∷ xs) left z (inr p) e =
+first-passes most b (x ∷ xs) left z (inr p) e =
     record { end = Return; rest = prepend_known xs left; long = omega arith; observable = consumes-part left (x ∷ xs) (13 ∷ []) xs (ap (λ y. y ∷ xs) p) }

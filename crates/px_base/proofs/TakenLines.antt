@@ -39,19 +39,19 @@ none-taken text Over (Some x) (Some y) e w observable =
     let z : text ≡ [] = nil_from_length text (omega arith) in
     (refl, observable ∙ ap (λ l. (l ++ []) ++ y) z ∙ w, w)
 
-observable-both : (room room2 : ℕ) (line : List ℕ) (end : LineEnd) (a b c : Option (List ℕ)) → Gathers room [] line a b → TakesEnd room2 end b c → Consumes a c (line ++ end_bytes end)
-observable-both room room2 line end a b c g t =
+observable-both : (most most2 : ℕ) (line : List ℕ) (end : LineEnd) (a b c : Option (List ℕ)) → Gathers most [] line a b → TakesEnd most2 end b c → Consumes a c (line ++ end_bytes end)
+observable-both most most2 line end a b c g t =
     subst (λ l. Consumes a c (l ++ end_bytes end)) (sym g.line_is) (Consumes-trans a b c g.part (end_bytes end) g.observable t.observable)
 
 -- what was put together, and its end, are a line
-takes-line : (line_limit room : ℕ) (line : List ℕ) (end : LineEnd) (window : List ℕ) (a b c : Option (List ℕ))
-    → Gathers (min line_limit room) [] line a b → TakesEnd (room - length line) end b c → (end ≡ Over → window ≡ [])
-    → GathersLine line_limit room line end window a c
-takes-line line_limit room line end window a b c g t over =
+takes-line : (line_limit most : ℕ) (line : List ℕ) (end : LineEnd) (window : List ℕ) (a b c : Option (List ℕ))
+    → Gathers (min line_limit most) [] line a b → TakesEnd (most - length line) end b c → (end ≡ Over → window ≡ [])
+    → GathersLine line_limit most line end window a c
+takes-line line_limit most line end window a b c g t over =
     let short = g.short in
     let fits = t.fits in
     let plain = subst IsUncut (sym g.line_is) g.plain in
-    let observable = observable-both (min line_limit room) (room - length line) line end a b c g t in
+    let observable = observable-both (min line_limit most) (most - length line) line end a b c g t in
     record {
       short = omega arith;
       fits = omega arith;
@@ -60,49 +60,49 @@ takes-line line_limit room line end window a b c g t over =
           record { empty = nil_from_length line (omega arith); drained = over n.0; over_before = n.1; over_after = n.2 };
     }
 
-pub took-line : {E : Type 0} (line_limit room : ℕ) (line window : List ℕ) (a b c : Option (List ℕ)) (r : Result LineEnd E)
-    → Gathers (min line_limit room) [] line a b → IfOk r (λ end. TakesEnd (room - length line) end b c) → (r ≡ Ok Over → window ≡ [])
-    → IfOk r (λ end. GathersLine line_limit room line end window a c)
-took-line line_limit room line window a b c (Ok end) g t over = takes-line line_limit room line end window a b c g t (λ e. over (ap Ok e))
-took-line line_limit room line window a b c (Err e) g t over = tt
+pub took-line : {E : Type 0} (line_limit most : ℕ) (line window : List ℕ) (a b c : Option (List ℕ)) (r : Result LineEnd E)
+    → Gathers (min line_limit most) [] line a b → IfOk r (λ end. TakesEnd (most - length line) end b c) → (r ≡ Ok Over → window ≡ [])
+    → IfOk r (λ end. GathersLine line_limit most line end window a c)
+took-line line_limit most line window a b c (Ok end) g t over = takes-line line_limit most line end window a b c g t (λ e. over (ap Ok e))
+took-line line_limit most line window a b c (Err e) g t over = tt
 
-long-first : (line_limit room : ℕ) (text : List ℕ) (n m : ℕ) → BeginsLong n m (cut text) → (line_limit < n) ⊎ (room < n + m) → IsLong line_limit room (Some text)
-long-first line_limit room text n m l h = (l.first, l.others, l.lines_are, λ w. grind (arith, l.long, l.end_long, w.0, w.1, h))
+long-first : (line_limit most : ℕ) (text : List ℕ) (n m : ℕ) → BeginsLong n m (cut text) → (line_limit < n) ⊎ (most < n + m) → IsLong line_limit most (Some text)
+long-first line_limit most text n m l h = (l.first, l.others, l.lines_are, λ w. grind (arith, l.long, l.end_long, w.0, w.1, h))
 
-long-prefix : (line_limit room : ℕ) (x prefix : List ℕ) (rest : Option (List ℕ)) → IsUncut prefix → min line_limit room < length prefix → Consumes (Some x) rest prefix
-    → IsLong line_limit room (Some x)
-long-prefix line_limit room x prefix None p l observable = absurd observable
-long-prefix line_limit room x [] (Some y) p l observable = absurd (omega arith)
-long-prefix line_limit room x (b ∷ bs) (Some y) p l observable =
-    long-first line_limit room x (length (b ∷ bs)) 0 (subst (λ z. BeginsLong (length (b ∷ bs)) 0 (cut z)) (sym observable) (cut-long b bs y p)) (grind arith)
+long-prefix : (line_limit most : ℕ) (x prefix : List ℕ) (rest : Option (List ℕ)) → IsUncut prefix → min line_limit most < length prefix → Consumes (Some x) rest prefix
+    → IsLong line_limit most (Some x)
+long-prefix line_limit most x prefix None p l observable = absurd observable
+long-prefix line_limit most x [] (Some y) p l observable = absurd (omega arith)
+long-prefix line_limit most x (b ∷ bs) (Some y) p l observable =
+    long-first line_limit most x (length (b ∷ bs)) 0 (subst (λ z. BeginsLong (length (b ∷ bs)) 0 (cut z)) (sym observable) (cut-long b bs y p)) (grind arith)
 
--- more stands before the first end than the room allows
-pub long-text : (line_limit room : ℕ) (before : Option (List ℕ)) → IsTooLong (min line_limit room) [] before → IsLong line_limit room before
-long-text line_limit room None t = tt
-long-text line_limit room (Some x) t = long-prefix line_limit room x t.prefix t.rest t.plain (omega (arith, t.long)) t.observable
+-- more stands before the first end than is allowed
+pub long-text : (line_limit most : ℕ) (before : Option (List ℕ)) → IsTooLong (min line_limit most) [] before → IsLong line_limit most before
+long-text line_limit most None t = tt
+long-text line_limit most (Some x) t = long-prefix line_limit most x t.prefix t.rest t.plain (omega (arith, t.long)) t.observable
 
-long-ended : (line_limit room : ℕ) (text : List ℕ) (end : LineEnd) (rest : List ℕ) → IsUncut text → length text ≤ room → room - length text < length (end_bytes end)
-    → IsLong line_limit room (Some (text ++ (end_bytes end ++ rest)))
-long-ended line_limit room text Feed rest p s h = (record { text = text; end = 10 ∷ [] }, cut rest, cut-feed text rest p, λ w. omega (arith, w.1))
-long-ended line_limit room text Return rest p s h = long-first line_limit room (text ++ 13 ∷ rest) (length text) 1 (cut-return-long text rest p) (inr (omega arith))
-long-ended line_limit room text ReturnFeed rest p s h = (record { text = text; end = 13 ∷ 10 ∷ [] }, cut rest, cut-return-feed text rest p, λ w. omega (arith, w.1))
-long-ended line_limit room text Over rest p s h = absurd (omega arith)
+long-ended : (line_limit most : ℕ) (text : List ℕ) (end : LineEnd) (rest : List ℕ) → IsUncut text → length text ≤ most → most - length text < length (end_bytes end)
+    → IsLong line_limit most (Some (text ++ (end_bytes end ++ rest)))
+long-ended line_limit most text Feed rest p s h = (record { text = text; end = 10 ∷ [] }, cut rest, cut-feed text rest p, λ w. omega (arith, w.1))
+long-ended line_limit most text Return rest p s h = long-first line_limit most (text ++ 13 ∷ rest) (length text) 1 (cut-return-long text rest p) (inr (omega arith))
+long-ended line_limit most text ReturnFeed rest p s h = (record { text = text; end = 13 ∷ 10 ∷ [] }, cut rest, cut-return-feed text rest p, λ w. omega (arith, w.1))
+long-ended line_limit most text Over rest p s h = absurd (omega arith)
 
-long-observable : (line_limit room : ℕ) (text : List ℕ) (end : LineEnd) (before rest : Option (List ℕ)) → IsUncut text → length text ≤ room → room - length text < length (end_bytes end)
-    → Consumes before rest (text ++ end_bytes end) → IsLong line_limit room before
-long-observable line_limit room text end None rest p s h observable = tt
-long-observable line_limit room text end (Some x) None p s h observable = absurd observable
-long-observable line_limit room text end (Some x) (Some y) p s h observable =
-    subst (λ z. IsLong line_limit room (Some z)) (sym (observable ∙ append_assoc text (end_bytes end) y)) (long-ended line_limit room text end y p s h)
+long-observable : (line_limit most : ℕ) (text : List ℕ) (end : LineEnd) (before rest : Option (List ℕ)) → IsUncut text → length text ≤ most → most - length text < length (end_bytes end)
+    → Consumes before rest (text ++ end_bytes end) → IsLong line_limit most before
+long-observable line_limit most text end None rest p s h observable = tt
+long-observable line_limit most text end (Some x) None p s h observable = absurd observable
+long-observable line_limit most text end (Some x) (Some y) p s h observable =
+    subst (λ z. IsLong line_limit most (Some z)) (sym (observable ∙ append_assoc text (end_bytes end) y)) (long-ended line_limit most text end y p s h)
 
--- a byte of the line's end passes the room
-pub long-end : (line_limit room : ℕ) (line : List ℕ) (a b : Option (List ℕ)) → Gathers (min line_limit room) [] line a b → EndPasses (room - length line) b → IsLong line_limit room a
-long-end line_limit room line a b g t =
+-- a byte of the line's end is one too many
+pub long-end : (line_limit most : ℕ) (line : List ℕ) (a b : Option (List ℕ)) → Gathers (min line_limit most) [] line a b → EndPasses (most - length line) b → IsLong line_limit most a
+long-end line_limit most line a b g t =
     let short = g.short in
     let e = ap length g.line_is in
-    long-observable line_limit room g.part t.end a t.rest g.plain (omega arith) (omega (arith, t.long)) (Consumes-trans a b t.rest g.part (end_bytes t.end) g.observable t.observable)
+    long-observable line_limit most g.part t.end a t.rest g.plain (omega arith) (omega (arith, t.long)) (Consumes-trans a b t.rest g.part (end_bytes t.end) g.observable t.observable)
 
 -- limits that are what the reader has left
-pub past-long : (r : ReaderState) (room : ℕ) (before : Option (List ℕ)) → r.taken + room ≡ r.text_limit → IsLong r.line_limit room before → IsPast r before
-past-long r room None e t = tt
-past-long r room (Some x) e t = (t.0, t.1, t.2, λ w. t.3 (w.0, omega (arith, w.1)))
+pub past-long : (r : ReaderState) (most : ℕ) (before : Option (List ℕ)) → r.taken + most ≡ r.text_limit → IsLong r.line_limit most before → IsPast r before
+past-long r most None e t = tt
+past-long r most (Some x) e t = (t.0, t.1, t.2, λ w. t.3 (w.0, omega (arith, w.1)))

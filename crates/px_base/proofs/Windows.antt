@@ -66,5 +66,5 @@ pub ends-nowhere : (xs : List ℕ) → xs ≡ [] → has_end xs ≢ true
 ends-nowhere xs e h = let p = ap has_end e in cc
 
 -- what went behind the line has no end
-pub end-part : {room : ℕ} {ahead line rest new : List ℕ} → TakesPart room ahead line rest new → has_end ahead ≡ has_end rest
+pub end-part : {most : ℕ} {ahead line rest new : List ℕ} → TakesPart most ahead line rest new → has_end ahead ≡ has_end rest
 end-part {ahead = ahead} {rest = rest} t = ap has_end t.ahead_is ∙ end-behind t.part rest t.plain

@@ -7,60 +7,60 @@ use Rattle.px_base.specs.LineEnds.{end_bytes, IsStopped}
 use Rattle.px_base.specs.ReaderStates.{IsFirst, IsOver}
 
 -- What is ahead, up to the first LF or CR, or else all of it, went behind the line.
-pub record TakesPart (room : ℕ) (ahead line rest new : List ℕ) : Type 0 where
+pub record TakesPart (most : ℕ) (ahead line rest new : List ℕ) : Type 0 where
   -- what was taken
   pub part : List ℕ
   -- it has no line end
   pub plain : IsUncut part
   -- it stands behind the line
   pub line_is : new ≡ line ++ part
-  -- there was room for it
-  pub short : length new ≤ room
+  -- the line is no longer than allowed
+  pub short : length new ≤ most
   -- it stood ahead
   pub ahead_is : ahead ≡ part ++ rest
   -- an end stands behind it, or nothing
   pub stopped : IsStopped rest
 
--- more of what is ahead stands before the first LF or CR than the line has room for
-pub record Overfills (room : ℕ) (ahead line : List ℕ) : Type 0 where
+-- more of what is ahead stands before the first LF or CR than the line may have
+pub record Overfills (most : ℕ) (ahead line : List ℕ) : Type 0 where
   -- some of what is ahead
   pub prefix : List ℕ
   -- what stands behind that
   pub rest : List ℕ
   -- it has no line end
   pub plain : IsUncut prefix
-  -- there isn't room for it
-  pub long : room < length line + length prefix
+  -- with it the line is too long
+  pub long : most < length line + length prefix
   -- it stands ahead
   pub ahead_is : ahead ≡ prefix ++ rest
 
 -- some of the text ahead, none of it LF or CR, went behind the line
-pub record Gathers (room : ℕ) (line new : List ℕ) (before after : Option (List ℕ)) : Type 0 where
+pub record Gathers (most : ℕ) (line new : List ℕ) (before after : Option (List ℕ)) : Type 0 where
   -- what was taken
   pub part : List ℕ
   -- it has no line end
   pub plain : IsUncut part
   -- it stands behind the line
   pub line_is : new ≡ line ++ part
-  -- there was room for it
-  pub short : length new ≤ room
+  -- the line is no longer than allowed
+  pub short : length new ≤ most
   -- it was taken from what is ahead, if that is observable
   pub observable : Consumes before after part
 
 -- the same, where the text ahead is what the window holds and then what the shelf has left
 abbrev pub GathersAhead : ℕ → List ℕ → List ℕ → List ℕ → Option (List ℕ) → List ℕ → Option (List ℕ) → Type 0
-GathersAhead room line new window left window2 left2 = Gathers room line new (prepend_known window left) (prepend_known window2 left2)
+GathersAhead most line new window left window2 left2 = Gathers most line new (prepend_known window left) (prepend_known window2 left2)
 
--- more stands before the first LF or CR than the line has room for
-pub record IsTooLong (room : ℕ) (line : List ℕ) (before : Option (List ℕ)) : Type 0 where
+-- more stands before the first LF or CR than the line may have
+pub record IsTooLong (most : ℕ) (line : List ℕ) (before : Option (List ℕ)) : Type 0 where
   -- some of what is ahead
   pub prefix : List ℕ
   -- what stands behind that, if it is observable
   pub rest : Option (List ℕ)
   -- it has no line end
   pub plain : IsUncut prefix
-  -- there isn't room for it
-  pub long : room < length line + length prefix
+  -- with it the line is too long
+  pub long : most < length line + length prefix
   -- it stands ahead, if that is observable
   pub observable : Consumes before rest prefix
 
@@ -75,11 +75,11 @@ pub record IsDone (line window : List ℕ) (before after : Option (List ℕ)) : 
   pub over_after : IsOver after
 
 -- a line was taken with its end, both within the limits, or nothing where the text is over
-pub record GathersLine (line_limit room : ℕ) (line : List ℕ) (end : LineEnd) (window : List ℕ) (before after : Option (List ℕ)) : Type 0 where
+pub record GathersLine (line_limit most : ℕ) (line : List ℕ) (end : LineEnd) (window : List ℕ) (before after : Option (List ℕ)) : Type 0 where
   -- the line is within its limit
   pub short : length line ≤ line_limit
-  -- with its end it is within the room
-  pub fits : length line + length (end_bytes end) ≤ room
+  -- with its end it is no longer than allowed
+  pub fits : length line + length (end_bytes end) ≤ most
   -- if there is one, it is the first line of the text
   pub first : 0 < length line + length (end_bytes end) → IsFirst (record { text = line; end = end_bytes end }) before after
   -- if there is none, the text is over
@@ -87,11 +87,11 @@ pub record GathersLine (line_limit room : ℕ) (line : List ℕ) (end : LineEnd)
 
 -- the same, where the text ahead is what the window holds and then what the shelf has left
 abbrev pub TakesWhole : ℕ → ℕ → List ℕ → LineEnd → List ℕ → Option (List ℕ) → List ℕ → Option (List ℕ) → Type 0
-TakesWhole line_limit room line end window left window2 left2 =
-    GathersLine line_limit room line end window2 (prepend_known window left) (prepend_known window2 left2)
+TakesWhole line_limit most line end window left window2 left2 =
+    GathersLine line_limit most line end window2 (prepend_known window left) (prepend_known window2 left2)
 
--- the first line of an observable text has more bytes than the line's limit, or with its end more than the room
+-- the first line of an observable text has more bytes than the line's limit, or with its end more than are allowed
 abbrev pub IsLong : ℕ → ℕ → Option (List ℕ) → Type 0
-IsLong line_limit room None = ⊤
-IsLong line_limit room (Some text) =
-    (l : Line) × (rest : List Line) × (cut text ≡ l ∷ rest) × ¬ ((length l.text ≤ line_limit) × (length l.text + length l.end ≤ room))
+IsLong line_limit most None = ⊤
+IsLong line_limit most (Some text) =
+    (l : Line) × (rest : List Line) × (cut text ≡ l ∷ rest) × ¬ ((length l.text ≤ line_limit) × (length l.text + length l.end ≤ most))

@@ -16,12 +16,12 @@ pub record ShelfInMemory : Type 0 where
   pub calls : ℕ
   pub faults : ℕ
 
--- what was written to a sink in memory, for how much it has room, and which of its calls fail
+-- what was written to a sink in memory, how many bytes it holds at most, and which of its calls fail
 pub record SinkInMemory : Type 0 where
   -- all that was written
   pub written : List ℕ
   -- the most bytes that are written in all, and by one call
-  pub room : ℕ
+  pub capacity : ℕ
   pub piece : ℕ
   -- the numbers of the calls that fail, from 1 on, the calls that were made, and the faults among them
   pub failing : List ℕ

@@ -26,22 +26,22 @@ IsWhole ReturnFeed after = ⊤
 IsWhole Over after = IsAtEnd after
 
 -- an end was taken, of at most so many bytes
-pub record TakesEnd (room : ℕ) (end : LineEnd) (before after : Option (List ℕ)) : Type 0 where
-  -- the end has no more bytes than there is room for
-  pub fits : length (end_bytes end) ≤ room
+pub record TakesEnd (most : ℕ) (end : LineEnd) (before after : Option (List ℕ)) : Type 0 where
+  -- the end has no more bytes than are allowed
+  pub fits : length (end_bytes end) ≤ most
   -- it was taken from what is ahead, if that is observable
   pub observable : Consumes before after (end_bytes end)
   -- nothing of the end is left
   pub whole : IsWhole end after
 
--- the end ahead has more bytes than the room
-pub record EndPasses (room : ℕ) (before : Option (List ℕ)) : Type 0 where
+-- the end ahead has more bytes than are allowed
+pub record EndPasses (most : ℕ) (before : Option (List ℕ)) : Type 0 where
   -- the end ahead
   pub end : LineEnd
   -- what stands behind it, if that is observable
   pub rest : Option (List ℕ)
-  -- it has more bytes than there is room for
-  pub long : room < length (end_bytes end)
+  -- it has more bytes than are allowed
+  pub long : most < length (end_bytes end)
   -- it stands ahead, if that is observable
   pub observable : Consumes before rest (end_bytes end)
 

@@ -107,7 +107,7 @@ impl Shelf for MemShelf {
 
     /// Moves as many bytes as are left, as fit, and as one read moves, whichever is least.
     fn read(&mut self, buf: &mut [u8]) -> Result<usize, Failed>
-        requires room { 0 < length buf.old }
+        requires nonempty { 0 < length buf.old }
         requires open { IsTrue (is_some self.old.left) }
         ensures files { Some self.new.files ≡ Some self.old.files }
         ensures at_most { ReadsAtMost result buf.new }
@@ -151,9 +151,9 @@ fn copy_prefix(bytes: &[u8], most: usize, buf: &mut [u8]) -> usize
     count
 }
 
-/// Bytes that are written to memory, seen as all that was written, its room, and which calls fail.
+/// Bytes that are written to memory, seen as all that was written, its capacity, and which calls fail.
 ///
-/// A sink with room for 1,024 bytes, on which no call fails:
+/// A sink for at most 1,024 bytes, on which no call fails:
 ///
 ///     let mut sink = MemSink::new(alloc, 64, Vec::new(alloc), 1024)?;
 ///     put_all(&mut sink, b"blocks 2\n")?;
@@ -161,7 +161,7 @@ fn copy_prefix(bytes: &[u8], most: usize, buf: &mut [u8]) -> usize
 #[derive(Drop)]
 pub struct MemSink {
     bytes: Vec<u8>,
-    room: u32,
+    capacity: u32,
     piece: u32,
     plan: PlannedFaults,
 }
@@ -174,29 +174,29 @@ impl Model for MemSink {
 
     ghost view = { λ s. record {
       written = s.bytes.items;
-      room = s.room;
+      capacity = s.capacity;
       piece = s.piece;
       failing = s.plan.numbers.items;
       calls = s.plan.calls;
       faults = s.plan.faults;
     } };
 
-    ghost invariant = { λ s. (1 ≤ s.piece) × (vec_len s.bytes ≤ s.room) × (s.room ≤ vec_capacity s.bytes) };
+    ghost invariant = { λ s. (1 ≤ s.piece) × (vec_len s.bytes ≤ s.capacity) × (s.capacity ≤ vec_capacity s.bytes) };
 }
 
 impl MemSink {
-    /// An empty sink with room for `room` bytes in all.
+    /// An empty sink for at most `capacity` bytes in all.
     ///
     /// One call writes at most `piece` bytes, which is 1 or more. Calls are numbered from 1 on, and exactly
-    /// those fail whose numbers are listed in `failing`, or that find no room left. O(1); it takes `room`
+    /// those fail whose numbers are listed in `failing`, or that find it full. O(1); it takes `capacity`
     /// bytes, and a write takes no memory.
-    pub fn new(alloc: Global, piece: u32, failing: Vec<u32>, room: u32) -> Result<MemSink, Memory>
+    pub fn new(alloc: Global, piece: u32, failing: Vec<u32>, capacity: u32) -> Result<MemSink, Memory>
         requires { 1 ≤ piece }
-        ensures { IfOk result (λ s. s ≡ record { written = []; room = room; piece = piece; failing = failing.items; calls = 0; faults = 0 }) }
+        ensures { IfOk result (λ s. s ≡ record { written = []; capacity = capacity; piece = piece; failing = failing.items; calls = 0; faults = 0 }) }
     {
         Ok(MemSink {
-            bytes: Vec::with_capacity(alloc, room as usize)?,
-            room,
+            bytes: Vec::with_capacity(alloc, capacity as usize)?,
+            capacity,
             piece,
             plan: PlannedFaults {
                 numbers: failing,
@@ -219,7 +219,7 @@ impl Sink for MemSink {
 
     ghost faults = { λ s. s.faults };
 
-    /// Moves as many bytes as there are, as one write moves, and as there is room for, whichever is
+    /// Moves as many bytes as there are, as one write moves, and as still fit, whichever is
     /// least.
     fn write(&mut self, piece: &[u8]) -> Result<usize, Failed>
         requires { 0 < length piece.now }
@@ -227,13 +227,13 @@ impl Sink for MemSink {
         ensures bytes { WriteAppends (Some self.old.written) (Some self.new.written) result piece.now }
         ensures cause { HasCause self.old.faults self.new.faults result }
         ensures kept { self.new ≡ record self.old { written = self.new.written; calls = one_more self.old.calls; faults = self.new.faults } }
-        ensures moved { IfOk result (λ n. n ≡ min (min (length piece.now) self.old.piece) (self.old.room - length self.old.written)) }
-        ensures fails { is_err result ≡ (has self.old.failing self.new.calls || (length self.old.written == self.old.room)) }
+        ensures moved { IfOk result (λ n. n ≡ min (min (length piece.now) self.old.piece) (self.old.capacity - length self.old.written)) }
+        ensures fails { is_err result ≡ (has self.old.failing self.new.calls || (length self.old.written == self.old.capacity)) }
         ensures counted { self.new.faults ≡ (if is_err result then one_more self.old.faults else self.old.faults) }
-        ensures succeeds { self.old.failing ≡ [] → length self.old.written < self.old.room → IsOk result }
+        ensures succeeds { self.old.failing ≡ [] → length self.old.written < self.old.capacity → IsOk result }
     {
         self.plan.call()?;
-        let left = self.room as usize - self.bytes.len();
+        let left = self.capacity as usize - self.bytes.len();
         let count = piece.len().min(self.piece as usize).min(left);
         if count == 0 {
             return Err(self.plan.fault());

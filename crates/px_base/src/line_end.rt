@@ -34,18 +34,18 @@ impl LineEnd {
 }
 
 /// Takes the CR that is ahead, and the LF behind it, if there is one. `Limit` where the end has
-/// more bytes than `room`.
+/// more bytes than `most`.
 fn take_return<H: Shelf>(
     window: &mut Window,
-    room: usize,
+    most: usize,
     shelf: &mut H,
 ) -> Result<LineEnd, LineFault>
     requires at { slice_get window.old 0 ≡ Some 13 }
-    requires room { 0 < room }
+    requires most { 0 < most }
     requires open { IsTrue (H.is_open shelf.old) }
-    ensures ok { IfOk result (λ end. TakesEnd room end (prepend_known window.old (H.left shelf.old)) (prepend_known window.new (H.left shelf.new))) }
+    ensures ok { IfOk result (λ end. TakesEnd most end (prepend_known window.old (H.left shelf.old)) (prepend_known window.new (H.left shelf.new))) }
     ensures some { result ≢ Ok LineEnd.Over }
-    ensures limit { IsErrOf result LineFault.Limit → EndPasses room (prepend_known window.old (H.left shelf.old)) }
+    ensures limit { IsErrOf result LineFault.Limit → EndPasses most (prepend_known window.old (H.left shelf.old)) }
     ensures unread { IsTrue (has_end window.old) → shelf.new ≡ shelf.old }
     ensures files { H.files shelf.new ≡ H.files shelf.old }
     ensures open { OnOk result (IsTrue (H.is_open shelf.new)) }
@@ -57,7 +57,7 @@ fn take_return<H: Shelf>(
     if window.first() != Some(b'\n') {
         return Ok(LineEnd::Return);
     }
-    if room < 2 {
+    if most < 2 {
         return Err(LineFault::Limit);
     }
     window.skip(1);
@@ -65,17 +65,17 @@ fn take_return<H: Shelf>(
 }
 
 /// Takes the end that is ahead, LF, CR LF or CR. After a CR it has to see one byte more, and reads
-/// on where none is ahead. `Limit` where the end has more bytes than `room`.
+/// on where none is ahead. `Limit` where the end has more bytes than `most`.
 pub(crate) fn take_end<H: Shelf>(
     window: &mut Window,
-    room: usize,
+    most: usize,
     shelf: &mut H,
 ) -> Result<LineEnd, LineFault>
     requires stop { IsAtStop window.old (H.left shelf.old) }
     requires open { IsTrue (H.is_open shelf.old) }
-    ensures ok { IfOk result (λ end. TakesEnd room end (prepend_known window.old (H.left shelf.old)) (prepend_known window.new (H.left shelf.new))) }
+    ensures ok { IfOk result (λ end. TakesEnd most end (prepend_known window.old (H.left shelf.old)) (prepend_known window.new (H.left shelf.new))) }
     ensures over { result ≡ Ok LineEnd.Over → window.new ≡ [] }
-    ensures limit { IsErrOf result LineFault.Limit → EndPasses room (prepend_known window.old (H.left shelf.old)) }
+    ensures limit { IsErrOf result LineFault.Limit → EndPasses most (prepend_known window.old (H.left shelf.old)) }
     ensures unread { IsTrue (has_end window.old) → shelf.new ≡ shelf.old }
     ensures files { H.files shelf.new ≡ H.files shelf.old }
     ensures open { OnOk result (IsTrue (H.is_open shelf.new)) }
@@ -85,12 +85,12 @@ pub(crate) fn take_end<H: Shelf>(
     let Some(byte) = window.first() else {
         return Ok(LineEnd::Over);
     };
-    if room == 0 {
+    if most == 0 {
         return Err(LineFault::Limit);
     }
     if byte == b'\n' {
         window.skip(1);
         return Ok(LineEnd::Feed);
     }
-    take_return(window, room, shelf)
+    take_return(window, most, shelf)
 }

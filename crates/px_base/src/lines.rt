@@ -50,17 +50,17 @@ impl From<AllocError> for LineFault {
 }
 
 /// Puts what is ahead behind the line, up to the first LF or CR, or else all of it. `Limit` where
-/// the line would have more bytes than `room`.
-fn take_ahead(window: &mut Window, line: &mut Vec<u8>, room: usize) -> Result<(), LineFault>
-    requires short { length line.old.items ≤ room }
-    requires room { room ≤ 2 ^ 30 }
-    ensures part { OnOk result (TakesPart room window.old line.old.items window.new line.new.items) }
-    ensures limit { IsErrOf result LineFault.Limit → Overfills room window.old line.old.items }
+/// the line would have more bytes than `most`.
+fn take_ahead(window: &mut Window, line: &mut Vec<u8>, most: usize) -> Result<(), LineFault>
+    requires short { length line.old.items ≤ most }
+    requires most { most ≤ 2 ^ 30 }
+    ensures part { OnOk result (TakesPart most window.old line.old.items window.new line.new.items) }
+    ensures limit { IsErrOf result LineFault.Limit → Overfills most window.old line.old.items }
     ensures no_fault { result ≢ Err LineFault.Fault }
 {
     let bytes = window.bytes();
     let count = plain_len(bytes);
-    if count > room - line.len() {
+    if count > most - line.len() {
         return Err(LineFault::Limit);
     }
     line.extend_from_slice(&bytes[..count])?;
@@ -69,19 +69,19 @@ fn take_ahead(window: &mut Window, line: &mut Vec<u8>, room: usize) -> Result<()
 }
 
 /// Puts the bytes up to the next LF or CR or the end behind the line, which then has at most
-/// `room`. It reads only where no LF or CR is ahead.
+/// `most`. It reads only where no LF or CR is ahead.
 fn gather<H: Shelf>(
     window: &mut Window,
     line: &mut Vec<u8>,
-    room: usize,
+    most: usize,
     shelf: &mut H,
 ) -> Result<(), LineFault>
-    requires short { length line.old.items ≤ room }
-    requires room { room ≤ 2 ^ 30 }
+    requires short { length line.old.items ≤ most }
+    requires most { most ≤ 2 ^ 30 }
     requires open { IsTrue (H.is_open shelf.old) }
-    ensures ok { OnOk result (GathersAhead room line.old.items line.new.items window.old (H.left shelf.old) window.new (H.left shelf.new)) }
+    ensures ok { OnOk result (GathersAhead most line.old.items line.new.items window.old (H.left shelf.old) window.new (H.left shelf.new)) }
     ensures stop { OnOk result (IsAtStop window.new (H.left shelf.new)) }
-    ensures limit { IsErrOf result LineFault.Limit → IsTooLong room line.old.items (prepend_known window.old (H.left shelf.old)) }
+    ensures limit { IsErrOf result LineFault.Limit → IsTooLong most line.old.items (prepend_known window.old (H.left shelf.old)) }
     ensures unread { IsTrue (has_end window.old) → shelf.new ≡ shelf.old }
     ensures ahead { OnOk result (IsTrue (has_end window.old) → IsTrue (has_end window.new)) }
     ensures files { H.files shelf.new ≡ H.files shelf.old }
@@ -90,7 +90,7 @@ fn gather<H: Shelf>(
     ensures no_fault { result ≢ Err LineFault.Fault → H.faults shelf.new ≡ H.faults shelf.old }
 {
     loop {
-        take_ahead(window, line, room)?;
+        take_ahead(window, line, most)?;
         if !window.is_empty() {
             return Ok(());
         }
@@ -101,18 +101,18 @@ fn gather<H: Shelf>(
 }
 
 /// Replaces the old line by the next one, and takes its end. `Limit` where the line has more
-/// bytes than `line_limit`, or with its end more than `room`.
+/// bytes than `line_limit`, or with its end more than `most`.
 fn take_line<H: Shelf>(
     window: &mut Window,
     line: &mut Vec<u8>,
     line_limit: usize,
-    room: usize,
+    most: usize,
     shelf: &mut H,
 ) -> Result<LineEnd, LineFault>
     requires limit { line_limit ≤ 2 ^ 30 }
     requires open { IsTrue (H.is_open shelf.old) }
-    ensures ok { IfOk result (λ end. TakesWhole line_limit room line.new.items end window.old (H.left shelf.old) window.new (H.left shelf.new)) }
-    ensures limit { IsErrOf result LineFault.Limit → IsLong line_limit room (prepend_known window.old (H.left shelf.old)) }
+    ensures ok { IfOk result (λ end. TakesWhole line_limit most line.new.items end window.old (H.left shelf.old) window.new (H.left shelf.new)) }
+    ensures limit { IsErrOf result LineFault.Limit → IsLong line_limit most (prepend_known window.old (H.left shelf.old)) }
     ensures unread { IsTrue (has_end window.old) → shelf.new ≡ shelf.old }
     ensures files { H.files shelf.new ≡ H.files shelf.old }
     ensures open { OnOk result (IsTrue (H.is_open shelf.new)) }
@@ -120,8 +120,8 @@ fn take_line<H: Shelf>(
     ensures no_fault { result ≢ Err LineFault.Fault → H.faults shelf.new ≡ H.faults shelf.old }
 {
     line.clear();
-    gather(window, line, line_limit.min(room), shelf)?;
-    take_end(window, room - line.len(), shelf)
+    gather(window, line, line_limit.min(most), shelf)?;
+    take_end(window, most - line.len(), shelf)
 }
 
 /// Takes a text line by line from the file that a shelf has open, seen as how far it has come.

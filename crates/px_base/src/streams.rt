@@ -47,7 +47,7 @@ pub trait Shelf {
     /// 0 only at the end. Where it fails, none are read, and the count of faults rises. O(r) for r bytes
     /// read, no memory.
     fn read(&mut self, buf: &mut [u8]) -> Result<usize, Failed>
-        requires room { 0 < length buf.old }
+        requires nonempty { 0 < length buf.old }
         requires open { IsTrue (is_open self.old) }
         ensures files { files self.new ≡ files self.old }
         ensures at_most { ReadsAtMost result buf.new }

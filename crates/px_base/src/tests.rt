@@ -236,14 +236,14 @@ fn the_first_of_two_files_counts(rt: HostRuntime) -> Result<(), Fail> {
 #[test]
 fn all_is_written_in_pieces(rt: HostRuntime) -> Result<(), Fail> {
     let alloc = rt.alloc();
-    for (failing, room, want) in [
+    for (failing, capacity, want) in [
         (0, 7, (b"abcdefg".as_slice(), Ok(()))),
         (0, 6, (b"abcdef".as_slice(), Err(Failed))),
         (2, 9, (b"abc".as_slice(), Err(Failed))),
     ] {
-        let mut sink = MemSink::new(alloc, 3, vec![in alloc; failing]?, room)?;
+        let mut sink = MemSink::new(alloc, 3, vec![in alloc; failing]?, capacity)?;
         let end = put_all(&mut sink, b"abcdefg");
-        assert_eq!(rt; (sink.written(), end), want, "at {failing}, {room}");
+        assert_eq!(rt; (sink.written(), end), want, "at {failing}, {capacity}");
     }
     Ok(())
 }

@@ -97,7 +97,7 @@ pub(crate) fn count_batch(
 
 /// Counts the edges of a list between the blocks of their ends. The blocks of many edges are read
 /// before their pairs are counted, since reads that don't wait for one another take less time. There is
-/// room for two pairs a block from the start: in a graph of triples there are seldom fewer.
+/// capacity for two pairs a block from the start: in a graph of triples there are seldom fewer.
 pub(crate) fn count_edges(
     alloc: Global,
     blocks: &Blocks,

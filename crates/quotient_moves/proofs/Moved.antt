@@ -122,9 +122,9 @@ module _ (edges : Edges) (n : ℕ) (parents children : List ℕ) (lp : Lists (λ
       omega (arith, first, second, moved, was, now)
 
   -- both can be counted
-  pub room_for : (p p2 : List (Option ℕ)) (x y : ℕ) → set.len edges ≤ 2 ^ 30
+  pub capacity_for : (p p2 : List (Option ℕ)) (x y : ℕ) → set.len edges ≤ 2 ^ 30
       → edges_between edges p x y + (lead_count Parents p2 n x y parents + lead_count Children p2 n x y children) ≤ 2 ^ 31
-  room_for p p2 x y few =
+  capacity_for p p2 x y few =
       let a = between_most edges p x y in
       let b = between_most edges p2 x y in
       let c = parts_most p2 x y in

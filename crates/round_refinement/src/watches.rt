@@ -297,7 +297,7 @@ impl Places {
     }
 }
 
-// Makes room for the marks of nodes, if there are none.
+// Makes the marks of nodes, if there are none.
 fn make_marks(marks: &mut Vec<bool>, size: u32) -> Result<(), Memory>
     ensures { OnOk result ((n : ℕ) → mark_in marks.new.items n ≡ mark_in marks.old.items n) }
 {

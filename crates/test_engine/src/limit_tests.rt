@@ -1,4 +1,4 @@
-// An engine with all indexes and room for two nodes.
+// An engine with all indexes that holds two nodes at most.
 ghost use Rattle.std.specs.Prelude.{◌≡◌};
 ghost use Rattle.pathindex_core.specs.Engines.{IsSound, by_meaning};
 ghost use Rattle.pathindex_core.specs.EngineTerms.{IsUnopened, IsOpened};

@@ -67,7 +67,7 @@ impl SpareTexts {
         Ok(Text::from_string(text))
     }
 
-    /// Takes the texts of a triple back, for the next ones. Those for which there is no room are dropped. O(1); it takes
+    /// Takes the texts of a triple back, for the next ones. Those that don't fit are dropped. O(1); it takes
     /// memory only for the list of the texts.
     pub fn give_back(&mut self, triple: Triple) {
         let Triple {

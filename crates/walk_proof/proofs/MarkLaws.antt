@@ -69,8 +69,8 @@ notes_then P rows rows2 rows3 l l2 l3 a b = record {
   ];
 }
 
-pub room_on : (P : ℕ → ℕ → Type 0) (states width : ℕ) (rows rows2 : List BitSet) (l l2 : List Pair) → Notes P rows rows2 l l2 → HasMarkRows states width rows → HasMarkRows states width rows2
-room_on P states width rows rows2 l l2 a h = record { count = a.count ∙ h.count; wide = λ s b. a.sizes s ∙ h.wide s b }
+pub wide_on : (P : ℕ → ℕ → Type 0) (states width : ℕ) (rows rows2 : List BitSet) (l l2 : List Pair) → Notes P rows rows2 l l2 → HasMarkRows states width rows → HasMarkRows states width rows2
+wide_on P states width rows rows2 l l2 a h = record { count = a.count ∙ h.count; wide = λ s b. a.sizes s ∙ h.wide s b }
 
 abbrev pub no_row : BitSet
 no_row = record { size = 0; members = [] }

@@ -37,7 +37,7 @@ fn search_with<G: Digraph>(
     requires small { G.span g.now < 2 ^ 32 - 1 }
     requires count { length sources.now ≡ length program.now }
     requires sources { AreSources (state_at program.now) sources.now }
-    requires room { HasMarkRows (length program.now) (G.span g.now + 1) rows.old.items }
+    requires wide { HasMarkRows (length program.now) (G.span g.now + 1) rows.old.items }
     requires unmarked { (s c : ℕ) → IsMarked rows.old.items s c → ⊥ }
     requires start { start < length program.now }
     requires end { IsSome (G.label_at g.now end) }

@@ -84,7 +84,7 @@ fn note_led<G: Digraph>(
 ) -> Result<(), Memory>
     requires state { state < length rows.old.items }
     requires node { IsSome (G.label_at g.now node) }
-    requires room { (row rows.old.items state).size ≡ G.span g.now + 1 }
+    requires wide { (row rows.old.items state).size ≡ G.span g.now + 1 }
     ensures notes { OnOk result (Notes (LeadsAt G.Digraph g.now state node) rows.old.items rows.new.items layer.old layer.new) }
     ensures marked { OnOk result ((c : ℕ) → IsTrue (leads_through G.Digraph g.now c node) → IsMarked rows.new.items state c) }
 {
@@ -109,7 +109,7 @@ fn spread_source<G: Digraph>(
 ) -> Result<(), Memory>
     requires source { source < length program.now }
     requires node { IsSome (G.label_at g.now node) }
-    requires room { HasMarkRows (length program.now) (G.span g.now + 1) rows.old.items }
+    requires wide { HasMarkRows (length program.now) (G.span g.now + 1) rows.old.items }
     ensures notes { OnOk result (Notes (ReadsOne G.Digraph g.now program.now source state node) rows.old.items rows.new.items layer.old layer.new) }
     ensures marked { OnOk result ((s c : ℕ) → ReadsOne G.Digraph g.now program.now source state node s c → IsMarked rows.new.items s c) }
 {
@@ -133,7 +133,7 @@ fn spread_one<G: Digraph>(
 ) -> Result<(), Memory>
     requires sources { (s : ℕ) → IsTrue (has sources.now s) → s < length program.now }
     requires node { IsSome (G.label_at g.now node) }
-    requires room { HasMarkRows (length program.now) (G.span g.now + 1) rows.old.items }
+    requires wide { HasMarkRows (length program.now) (G.span g.now + 1) rows.old.items }
     ensures notes { OnOk result (Notes (ReadsFrom G.Digraph g.now program.now sources.now state node) rows.old.items rows.new.items layer.old layer.new) }
     ensures marked { OnOk result ((s c : ℕ) → ReadsFrom G.Digraph g.now program.now sources.now state node s c → IsMarked rows.new.items s c) }
 {
@@ -155,7 +155,7 @@ fn spread_from<G: Digraph>(
     place: u32,
 ) -> Result<(), Memory>
     requires sources { (s : ℕ) → IsTrue (has sources.now s) → s < length program.now }
-    requires room { HasMarkRows (length program.now) (G.span g.now + 1) rows.old.items }
+    requires wide { HasMarkRows (length program.now) (G.span g.now + 1) rows.old.items }
     ensures notes { OnOk result (Notes (ReadsFrom G.Digraph g.now program.now sources.now state place) rows.old.items rows.new.items layer.old layer.new) }
     ensures marked { OnOk result ((s c : ℕ) → ReadsFrom G.Digraph g.now program.now sources.now state place s c → IsMarked rows.new.items s c) }
 {
@@ -179,7 +179,7 @@ fn spread<G: Digraph>(
     requires count { length sources.now ≡ length program.now }
     requires sources { AreSources (state_at program.now) sources.now }
     requires last { (s c : ℕ) → Among last.now s c → s < length program.now }
-    requires room { HasMarkRows (length program.now) (G.span g.now + 1) rows.old.items }
+    requires wide { HasMarkRows (length program.now) (G.span g.now + 1) rows.old.items }
     ensures notes { OnOk result (Notes (Into G.Digraph g.now program.now last.now) rows.old.items rows.new.items layer.old layer.new) }
     ensures marked { OnOk result ((s c : ℕ) → Into G.Digraph g.now program.now last.now s c → IsMarked rows.new.items s c) }
 {
@@ -234,7 +234,7 @@ fn close_one(
     place: u32,
 ) -> Result<(), Memory>
     requires sources { (s : ℕ) → IsTrue (has sources.now s) → s < length program.now }
-    requires room { HasMarkRows (length program.now) width rows.old.items }
+    requires wide { HasMarkRows (length program.now) width rows.old.items }
     requires place { place < width }
     ensures notes { OnOk result (Notes (EntersFrom (state_at program.now) sources.now state place) rows.old.items rows.new.items layer.old layer.new) }
     ensures marked { OnOk result ((s : ℕ) → IsTrue (has sources.now s) → Enters (state_at program.now s) state → IsMarked rows.new.items s place) }
@@ -256,7 +256,7 @@ fn close(
 ) -> Result<(), Memory>
     requires count { length sources.now ≡ length program.now }
     requires sources { AreSources (state_at program.now) sources.now }
-    requires room { HasMarkRows (length program.now) width rows.old.items }
+    requires wide { HasMarkRows (length program.now) width rows.old.items }
     requires layer { AreInside (length program.now) width layer.old }
     ensures notes { OnOk result (Notes (ForkedInto (state_at program.now) layer.old) rows.old.items rows.new.items layer.old layer.new) }
     ensures closed { OnOk result ((k s c : ℕ) → Among layer.new k c → Enters (state_at program.now s) k → IsMarked rows.new.items s c) }
@@ -310,7 +310,7 @@ fn note_ends(
     layer: &mut Layer,
     place: u32,
 ) -> Result<(), Memory>
-    requires room { HasMarkRows (length program.now) width rows.old.items }
+    requires wide { HasMarkRows (length program.now) width rows.old.items }
     requires place { place < width }
     ensures notes { OnOk result (Notes (λ s c. (state_at program.now s ≡ Some End) × (c ≡ place)) rows.old.items rows.new.items layer.old layer.new) }
     ensures marked { OnOk result ((s : ℕ) → state_at program.now s ≡ Some End → IsMarked rows.new.items s place) }
@@ -336,11 +336,11 @@ fn first_layer<G: Digraph>(
     requires small { G.span g.now < 2 ^ 32 - 1 }
     requires count { length sources.now ≡ length program.now }
     requires sources { AreSources (state_at program.now) sources.now }
-    requires room { HasMarkRows (length program.now) (G.span g.now + 1) rows.old.items }
+    requires wide { HasMarkRows (length program.now) (G.span g.now + 1) rows.old.items }
     requires unmarked { (s c : ℕ) → IsMarked rows.old.items s c → ⊥ }
     requires end { IsSome (G.label_at g.now end) }
     ensures single { IfOk result (λ layers. length layers.items ≡ 1) }
-    ensures room { IfOk result (λ layers. HasMarkRows (length program.now) (G.span g.now + 1) rows.new.items) }
+    ensures wide { IfOk result (λ layers. HasMarkRows (length program.now) (G.span g.now + 1) rows.new.items) }
     ensures layered { IfOk result (λ layers. IsLayered G.Digraph g.now program.now end layers.items rows.new.items) }
 {
     let mut layer = Layer::new(alloc);
@@ -363,10 +363,10 @@ fn next_layer<G: Digraph>(
     requires small { G.span g.now < 2 ^ 32 - 1 }
     requires count { length sources.now ≡ length program.now }
     requires sources { AreSources (state_at program.now) sources.now }
-    requires room { HasMarkRows (length program.now) (G.span g.now + 1) rows.old.items }
+    requires wide { HasMarkRows (length program.now) (G.span g.now + 1) rows.old.items }
     requires layered { IsLayered G.Digraph g.now program.now end layers.old.items rows.old.items }
     ensures longer { OnOk result ((layer : List Pair) × (layers.new.items ≡ layers.old.items ++ layer ∷ [])) }
-    ensures room { OnOk result (HasMarkRows (length program.now) (G.span g.now + 1) rows.new.items) }
+    ensures wide { OnOk result (HasMarkRows (length program.now) (G.span g.now + 1) rows.new.items) }
     ensures layered { OnOk result (IsLayered G.Digraph g.now program.now end layers.new.items rows.new.items) }
 {
     let mut layer = Layer::new(alloc);
@@ -412,11 +412,11 @@ pub(crate) fn layers_to<G: Digraph>(
     requires small { G.span g.now < 2 ^ 32 - 1 }
     requires count { length sources.now ≡ length program.now }
     requires sources { AreSources (state_at program.now) sources.now }
-    requires room { HasMarkRows (length program.now) (G.span g.now + 1) rows.old.items }
+    requires wide { HasMarkRows (length program.now) (G.span g.now + 1) rows.old.items }
     requires unmarked { (s c : ℕ) → IsMarked rows.old.items s c → ⊥ }
     requires start { start < length program.now }
     requires end { IsSome (G.label_at g.now end) }
-    ensures room { IfOk result (λ layers. HasMarkRows (length program.now) (G.span g.now + 1) rows.new.items) }
+    ensures wide { IfOk result (λ layers. HasMarkRows (length program.now) (G.span g.now + 1) rows.new.items) }
     ensures layered { IfOk result (λ layers. IsLayered G.Digraph g.now program.now end layers.items rows.new.items) }
     ensures first { IfOk result (λ layers. IsFirst layers.items start (G.span g.now)) }
     ensures end { IfOk result (λ layers. IsMarked rows.new.items start (G.span g.now) ⊎ HasEmptyLast layers.items) }

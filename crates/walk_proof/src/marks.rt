@@ -48,7 +48,7 @@ impl Layer {
 
 /// For each state a row in which no place is marked.
 pub(crate) fn new_rows(alloc: Global, states: usize, width: u32) -> Result<Vec<Row>, Memory>
-    ensures room { IfOk result (λ rows. HasMarkRows states width rows.items) }
+    ensures wide { IfOk result (λ rows. HasMarkRows states width rows.items) }
     ensures unmarked { IfOk result (λ rows. (s c : ℕ) → IsMarked rows.items s c → ⊥) }
 {
     let mut rows = Vec::new(alloc);

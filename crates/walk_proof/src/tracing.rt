@@ -296,7 +296,7 @@ fn trace_on<G: Digraph>(
 ) -> Result<(), Memory>
     requires count { length sources.now ≡ length program.now }
     requires sources { AreSources (state_at program.now) sources.now }
-    requires room { HasMarkRows (length program.now) (G.span g.now + 1) rows.old.items }
+    requires wide { HasMarkRows (length program.now) (G.span g.now + 1) rows.old.items }
     requires layered { IsLayered G.Digraph g.now program.now end layers.now rows.old.items }
     requires first { (d : ℕ) → d + 1 ≡ length layers.now → Among (layer_at layers.now d) start (G.span g.now) }
     requires behind { behind.old.0 ≡ length program.now }
@@ -341,7 +341,7 @@ pub(crate) fn trace<G: Digraph>(
 ) -> Result<Vec<u32>, Memory>
     requires count { length sources.now ≡ length program.now }
     requires sources { AreSources (state_at program.now) sources.now }
-    requires room { HasMarkRows (length program.now) (G.span g.now + 1) rows.old.items }
+    requires wide { HasMarkRows (length program.now) (G.span g.now + 1) rows.old.items }
     requires layered { IsLayered G.Digraph g.now program.now end layers.now rows.old.items }
     requires first { (d : ℕ) → d + 1 ≡ length layers.now → Among (layer_at layers.now d) start (G.span g.now) }
     requires start { start < length program.now }

@@ -41,25 +41,25 @@ each_line (x ∷ xs) (suc i) l p e = each_line xs i l p.1 (search (rules, e))
 
 pub script_small : (seed nodes : ℕ) → 0 < nodes → nodes + 500 ≤ 2 ^ 32 → length (made_script_text seed nodes) ≤ SCRIPT_BYTES
 unfolding made_script_text
-script_small seed nodes some room =
+script_small seed nodes some space =
     let x = after_lines 20000 seed in
     small x
   where
     small : (x : ℕ) → length (lines_text (steps_onto nodes 500 nodes x last_lines)) ≤ SCRIPT_BYTES
     small x =
-        let l = length_lines (steps_onto nodes 500 nodes x last_lines) (script_lines nodes x some room) in
+        let l = length_lines (steps_onto nodes 500 nodes x last_lines) (script_lines nodes x some space) in
         let n = count_lines nodes 500 nodes x last_lines in
         omega (arith, l, n)
 
 pub script_proper : (seed nodes : ℕ) → 0 < nodes → nodes + 500 ≤ 2 ^ 32 → (i : ℕ) (l : Line) → slice_get (cut (made_script_text seed nodes)) i ≡ Some l
     → (length l.text ≤ LINE_BYTES) × SpellsSomething program_limits l.text
 unfolding made_script_text
-script_proper seed nodes some room i l e = proper (after_lines 20000 seed) e
+script_proper seed nodes some space i l e = proper (after_lines 20000 seed) e
   where
     proper : (x : ℕ) → slice_get (cut (lines_text (steps_onto nodes 500 nodes x last_lines))) i ≡ Some l → (length l.text ≤ LINE_BYTES) × SpellsSomething program_limits l.text
     proper x h =
         let lines = steps_onto nodes 500 nodes x last_lines in
-        let are = script_lines nodes x some room in
+        let are = script_lines nodes x some space in
         let p = each_line lines i l are (ap (λ ls. slice_get ls i) (sym (cut_lines lines are)) ∙ h) in
         (let s = p.short in omega (arith, s), inr (inl (p.command, p.spelled)))
 
@@ -67,10 +67,10 @@ script_proper seed nodes some room i l e = proper (after_lines 20000 seed) e
 pub script_alone : (seed nodes : ℕ) → 0 < nodes → nodes + 500 ≤ 2 ^ 32 → (i : ℕ) (l : Line) → slice_get (cut (made_script_text seed nodes)) i ≡ Some l
     → (¬ IsSpelled l.text begin) × (¬ IsSpelled l.text end)
 unfolding made_script_text
-script_alone seed nodes some room i l e = alone (after_lines 20000 seed) e
+script_alone seed nodes some space i l e = alone (after_lines 20000 seed) e
   where
     alone : (x : ℕ) → slice_get (cut (lines_text (steps_onto nodes 500 nodes x last_lines))) i ≡ Some l → (¬ IsSpelled l.text begin) × (¬ IsSpelled l.text end)
     alone x h =
         let lines = steps_onto nodes 500 nodes x last_lines in
-        let are = script_lines nodes x some room in
+        let are = script_lines nodes x some space in
         line_alone l.text (each_line lines i l are (ap (λ ls. slice_get ls i) (sym (cut_lines lines are)) ∙ h))

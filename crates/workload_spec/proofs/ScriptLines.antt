@@ -160,14 +160,14 @@ label_proper x = below_four (drawn 1 4 x) (drawn_below (state_after 1 x) 4 (lit<
 
 steps_proper : (nodes n new x : ℕ) (lines : List (List ℕ)) → 0 < nodes → nodes ≤ 2 ^ 32 → new + n ≤ 2 ^ 32 → AreProper lines
     → AreProper (steps_onto nodes n new x lines)
-steps_proper nodes zero new x lines some fit room rest = rest
-steps_proper nodes (suc n) new x lines some fit room rest =
+steps_proper nodes zero new x lines some fit space rest = rest
+steps_proper nodes (suc n) new x lines some fit space rest =
     let first = drawn_below (state_after 2 x) nodes some in
     let second = drawn_below (state_after 3 x) nodes some in
-    let here : new < 2 ^ 32 = omega (arith, room) in
+    let here : new < 2 ^ 32 = omega (arith, space) in
     let a : drawn 2 nodes x < 2 ^ 32 = omega (arith, first, fit) in
     let b : drawn 3 nodes x < 2 ^ 32 = omega (arith, second, fit) in
-    let more = steps_proper nodes n (new + 1) (state_after 3 x) lines some fit (omega (arith, room)) rest in
+    let more = steps_proper nodes n (new + 1) (state_after 3 x) lines some fit (omega (arith, space)) rest in
     (label_proper x, (link_proper new (drawn 2 nodes x) here a, (link_proper new (drawn 3 nodes x) here b, (unlink_proper new (drawn 2 nodes x) here a, more))))
 
 level_word : codes "a2" ≡ 97 ∷ decimal 2
@@ -217,4 +217,4 @@ last_proper = (
 
 -- each line of a script for a graph of at least one node, in which 500 more numbers can be allocated
 pub script_lines : (nodes x : ℕ) → 0 < nodes → nodes + 500 ≤ 2 ^ 32 → AreProper (steps_onto nodes 500 nodes x last_lines)
-script_lines nodes x some room = steps_proper nodes 500 nodes x last_lines some (omega (arith, room)) room last_proper
+script_lines nodes x some space = steps_proper nodes 500 nodes x last_lines some (omega (arith, space)) space last_proper

@@ -1,4 +1,4 @@
--- A load takes each triple while there is room.
+-- A load takes each triple that the limits allow.
 use Rattle.std.proofs.Common.{◌≡◌, ◌∙◌, ◌+◌, ◌<◌, ◌≤◌, ℕ, zero, suc, Bool, true, false, cond, List, [], ◌∷◌, ◌++◌, length, Option, Some, None, Result, Ok, Err, refl, sym, ap, subst, rules, arith, ◌⊎◌, inl, inr, true≢false}
 use Rattle.std.specs.Prelude.{IsTrue, IsSome, ◌&&◌, ◌||◌, is_some, nat_lt, option_and_then, slice_get, unwrap_or, if◌then◌else◌}
 use Rattle.std.specs.FinSet as set
@@ -107,9 +107,9 @@ record Needs (limits : Limits) (x : Term) (l : LoadState) (low nodes edges label
   pub number : ℕ
   pub found : number_of leads.next.terms x ≡ Some number
 
-module _ (limits : Limits) (l : LoadState) (low nodes edges labels : ℕ) (has : HasAtMost low nodes edges labels l) (node_room : nodes < limits.nodes) (label_room : labels < limits.labels) where
+module _ (limits : Limits) (l : LoadState) (low nodes edges labels : ℕ) (has : HasAtMost low nodes edges labels l) (node_fits : nodes < limits.nodes) (label_fits : labels < limits.labels) where
   added : (t : List ℕ) → apply (node t ∷ []) l.graph limits ≡ Ok (with_node l.graph t)
-  added t = (let h = has.few_nodes in let k = has.few_labels in node_added limits l.graph t (omega (arith, h, node_room)) (omega (arith, k, label_room)))
+  added t = (let h = has.few_nodes in let k = has.few_labels in node_added limits l.graph t (omega (arith, h, node_fits)) (omega (arith, k, label_fits)))
 
   need_leads : (x : Term) → Needs limits x l low (nodes + 1) edges (labels + 1)
   need_leads x = by (number_of l.terms x) refl
@@ -181,9 +181,9 @@ edges_more g u v = (let e = set.len-insert edge_cmp_total g.edges (u, v) in subs
 
 edge_leads : (limits : Limits) (u v : ℕ) (l : LoadState) (low nodes edges labels : ℕ) → HasAtMost low nodes edges labels l → IsTrue (is_live l.graph u) → IsTrue (is_live l.graph v)
     → edges < limits.edges → Leads (changed limits (link u v) l) l low nodes (edges + 1) labels
-edge_leads limits u v l low nodes edges labels has from onto room = record {
+edge_leads limits u v l low nodes edges labels has from onto space = record {
   next = record { graph = with_edge l.graph u v; terms = l.terms; triples = l.triples };
-  made = ap (with_graph l) (edge_added limits l.graph u v from onto (let h = has.few_edges in omega (arith, h, room)));
+  made = ap (with_graph l) (edge_added limits l.graph u v from onto (let h = has.few_edges in omega (arith, h, space)));
   few = record {
     live = has.live;
     some = has.some;
@@ -197,18 +197,18 @@ edge_leads limits u v l low nodes edges labels has from onto room = record {
 linked_leads : (limits : Limits) (x : Term) (n : ℕ) (y : Term) (l : LoadState) (u low nodes edges labels : ℕ) → HasAtMost low nodes edges labels l
     → number_of l.terms x ≡ Some u → IsTrue (is_live l.graph n) → nodes < limits.nodes → edges + 1 < limits.edges → labels < limits.labels
     → Leads (linked limits x n y l) l low (nodes + 1) (edges + 1 + 1) (labels + 1)
-linked_leads limits x n y l u low nodes edges labels has is_from live node_room edge_room label_room =
-    let object = need_leads limits l low nodes edges labels has node_room label_room y in
+linked_leads limits x n y l u low nodes edges labels has is_from live node_fits edge_fits label_fits =
+    let object = need_leads limits l low nodes edges labels has node_fits label_fits y in
     let a = object.leads.next in
     let from : number_of a.terms x ≡ Some u = object.leads.extends.found x u is_from in
     let first : Leads (from_term limits x n a) a low (nodes + 1) (edges + 1) (labels + 1) =
     subst (λ o. Leads (changed limits (link (unwrap_or o 0) n) a) a low (nodes + 1) (edges + 1) (labels + 1)) (sym from)
-    (edge_leads limits u n a low (nodes + 1) edges (labels + 1) object.leads.few (object.leads.few.live x u from) (object.leads.extends.live n live) (omega (arith, edge_room))) in
+    (edge_leads limits u n a low (nodes + 1) edges (labels + 1) object.leads.few (object.leads.few.live x u from) (object.leads.extends.live n live) (omega (arith, edge_fits))) in
     let b = first.next in
     let onto : number_of b.terms y ≡ Some object.number = first.extends.found y object.number object.found in
     let second : Leads (onto_term limits n y b) b low (nodes + 1) (edges + 1 + 1) (labels + 1) =
     subst (λ o. Leads (changed limits (link n (unwrap_or o 0)) b) b low (nodes + 1) (edges + 1 + 1) (labels + 1)) (sym onto)
-    (edge_leads limits n object.number b low (nodes + 1) (edges + 1) (labels + 1) first.few (first.extends.live n (object.leads.extends.live n live)) (first.few.live y object.number onto) edge_room) in
+    (edge_leads limits n object.number b low (nodes + 1) (edges + 1) (labels + 1) first.few (first.extends.live n (object.leads.extends.live n live)) (first.few.live y object.number onto) edge_fits) in
     then_leads (need limits y l) (λ a. then_do (from_term limits x n a) (onto_term limits n y)) l low (nodes + 1) edges (labels + 1) low (nodes + 1) (edges + 1 + 1) (labels + 1) object.leads
     (then_leads (from_term limits x n a) (onto_term limits n y) a low (nodes + 1) (edges + 1) (labels + 1) low (nodes + 1) (edges + 1 + 1) (labels + 1) first second)
 
@@ -217,11 +217,11 @@ linked_leads limits x n y l u low nodes edges labels has is_from live node_room 
 placed_leads : (limits : Limits) (t : Triple) (l : LoadState) (u low nodes edges labels : ℕ) → HasAtMost low nodes edges labels l
     → number_of l.terms t.subject ≡ Some u → nodes + 1 < limits.nodes → edges + 1 < limits.edges → labels + 1 < limits.labels
     → Leads (placed limits t (length l.graph.allocated) l) l 1 (nodes + 1 + 1) (edges + 1 + 1) (labels + 1 + 1)
-placed_leads limits t l u low nodes edges labels has is_from node_room edge_room label_room =
-    let own = node_leads limits l low nodes edges labels has (omega (arith, node_room)) (omega (arith, label_room)) (predicate_label t.predicate) in
+placed_leads limits t l u low nodes edges labels has is_from node_fits edge_fits label_fits =
+    let own = node_leads limits l low nodes edges labels has (omega (arith, node_fits)) (omega (arith, label_fits)) (predicate_label t.predicate) in
     let a = own.leads.next in
     then_leads (changed limits (node (predicate_label t.predicate)) l) (linked limits t.subject (length l.graph.allocated) t.object) l 1 (nodes + 1) edges (labels + 1) 1 (nodes + 1 + 1) (edges + 1 + 1) (labels + 1 + 1) own.leads
-    (linked_leads limits t.subject (length l.graph.allocated) t.object a u 1 (nodes + 1) edges (labels + 1) own.leads.few (own.leads.extends.found t.subject u is_from) own.live node_room edge_room label_room)
+    (linked_leads limits t.subject (length l.graph.allocated) t.object a u 1 (nodes + 1) edges (labels + 1) own.leads.few (own.leads.extends.found t.subject u is_from) own.live node_fits edge_fits label_fits)
 
 abbrev noted : Triple → ℕ → LoadState → LoadState
 noted t n b = record b { triples = b.triples ++ (t, n) ∷ [] }
@@ -240,10 +240,10 @@ Takes limits t l nodes edges labels = Leads (with_triple limits t l) l 1 (nodes 
 -- a triple that isn't loaded is taken: it adds at most three nodes, two edges and three labels
 pub new_taken : (limits : Limits) (t : Triple) (l : LoadState) (low nodes edges labels : ℕ) → HasAtMost low nodes edges labels l → is_loaded l t ≡ false
     → nodes + 1 + 1 < limits.nodes → edges + 1 < limits.edges → labels + 1 + 1 < limits.labels → Takes limits t l nodes edges labels
-new_taken limits t l low nodes edges labels has unknown node_room edge_room label_room =
-    let subject = need_leads limits l low nodes edges labels has (omega (arith, node_room)) (omega (arith, label_room)) t.subject in
+new_taken limits t l low nodes edges labels has unknown node_fits edge_fits label_fits =
+    let subject = need_leads limits l low nodes edges labels has (omega (arith, node_fits)) (omega (arith, label_fits)) t.subject in
     let a = subject.leads.next in
-    let own = placed_leads limits t a subject.number low (nodes + 1) edges (labels + 1) subject.leads.few subject.found node_room edge_room label_room in
+    let own = placed_leads limits t a subject.number low (nodes + 1) edges (labels + 1) subject.leads.few subject.found node_fits edge_fits label_fits in
     let whole : Leads (then_do (need limits t.subject l) (λ a. then_do (placed limits t (length a.graph.allocated) a) (λ b. Ok (noted t (length a.graph.allocated) b)))) l 1 (nodes + 1 + 1 + 1) (edges + 1 + 1) (labels + 1 + 1 + 1) =
     then_leads (need limits t.subject l) (λ a. then_do (placed limits t (length a.graph.allocated) a) (λ b. Ok (noted t (length a.graph.allocated) b))) l low (nodes + 1) edges (labels + 1) 1 (nodes + 1 + 1 + 1) (edges + 1 + 1) (labels + 1 + 1 + 1) subject.leads
     (then_leads (placed limits t (length a.graph.allocated) a) (λ b. Ok (noted t (length a.graph.allocated) b)) a 1 (nodes + 1 + 1 + 1) (edges + 1 + 1) (labels + 1 + 1 + 1) 1 (nodes + 1 + 1 + 1) (edges + 1 + 1) (labels + 1 + 1 + 1) own
@@ -253,10 +253,10 @@ new_taken limits t l low nodes edges labels has unknown node_room edge_room labe
 -- and so is one that may be loaded already
 pub triple_taken : (limits : Limits) (t : Triple) (l : LoadState) (nodes edges labels : ℕ) → HasAtMost 1 nodes edges labels l
     → nodes + 1 + 1 < limits.nodes → edges + 1 < limits.edges → labels + 1 + 1 < limits.labels → Takes limits t l nodes edges labels
-triple_taken limits t l nodes edges labels has node_room edge_room label_room = by (is_loaded l t) refl
+triple_taken limits t l nodes edges labels has node_fits edge_fits label_fits = by (is_loaded l t) refl
   where
     by : (b : Bool) → is_loaded l t ≡ b → Takes limits t l nodes edges labels
-    by false e = new_taken limits t l 1 nodes edges labels has e node_room edge_room label_room
+    by false e = new_taken limits t l 1 nodes edges labels has e node_fits edge_fits label_fits
     by true e = record {
       next = l;
       made = ap (λ b. if b then Ok l else then_do (need limits t.subject l) (λ a. then_do (placed limits t (length a.graph.allocated) a) (λ b. Ok (noted t (length a.graph.allocated) b)))) e;

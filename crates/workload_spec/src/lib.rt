@@ -2,5 +2,5 @@
 //!
 //! Both texts are within the limits. The graph file of each seed loads, to a graph with 1 to 60,000 allocated numbers;
 //! the lines of the script are commands for graphs of 1 to 2^32 - 500 nodes. A state of a load takes any triple while
-//! there is room, and grows by at most three nodes, two edges and three labels (`triple_taken`).
+//! the limits allow it, and grows by at most three nodes, two edges and three labels (`triple_taken`).
 #![tactic(auto)]

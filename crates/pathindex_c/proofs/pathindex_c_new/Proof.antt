@@ -40,14 +40,14 @@ pathindex_c_new_spec 𝓤 𝓛 𝓜 𝓡 wired =
     in_a_block ! a.1.0 (λ p. room_at R p) (id⊢ 𝓤 _) (λ b o e.
     regoal ! (λ p. prop (WpFn 𝓤 𝓛.H 𝓣.C 𝓣.Λ code.function (shr_vals alloc ++ rawptr_vals p) (W.post (y p)))) e refl $
     enter ! _ _ _ _ _ $ alloc_all ! (λ l. pass_all ! refl ((tt, tt), ((tt, tt), tt)) $
-    -- [the room; the allocator; the token of κ and nothing; the locals]
+    -- [the place; the allocator; the token of κ and nothing; the locals]
     let G = triple_of 𝓛 g.signature (g.spec 𝓛 𝓜.mem 𝓡.returns) in
     let z : G.Ghost = ((κs, qs, tt, (alloc, tt), (shr_vals alloc, tt)), tt) in
     move ! (1 ∷ []) $ nothing ! $ move ! (1 ∷ 0 ∷ []) $ join ! $ move ! (2 ∷ 0 ∷ []) $ join ! $ nothing ! $ move ! (1 ∷ 0 ∷ []) $ use2 𝓛 (raw (G.pre z)) (id⊢ 𝓤 _) $
     calls_at ! (framed 𝓤 𝓛.H 𝓜 (tables 𝓤 𝓛.H 𝓜 𝓡 𝓡.env)) G (met 𝓤 𝓛 𝓜 𝓡 (code.calls-pathindex_calls::held::Held::new 𝓡.env wired)) z (and_then ! (get ! refl) (no_more !)) (λ w.
     use1 𝓛 (later (some (λ (r : R.Denot). ((‵ (flft κ q) ⊛ ‵ ftrue) ⊛ ‵ (R.own_val r (w ∷ []))) ⊛ some (λ (ws : Unit {0} × Unit {0}). ‵ (lasts g.ended z.0.0 z.0.3 ws) ⊛ raw (fact 𝓤 (IsEmpty r)))))) (id⊢ 𝓤 _) $
     await ! tt $ pick ! (λ r. split ! $ split ! $ move ! (1 ∷ []) $
-    -- [what is held; the token of κ and nothing; the rest; the room; the locals]
+    -- [what is held; the token of κ and nothing; the rest; the place; the locals]
     move ! (2 ∷ []) $ pick ! (λ ws. split ! $ move ! (1 ∷ []) $ heard ! _ (λ empty. drop ! $
     peeks ! R (Is R) (shows 𝓛 R) r (w ∷ []) (λ is. let t = ((the_row_laws.lawful 𝓛).typed r (w ∷ []) is).0 in lands_as ! refl refl t $
     first ! $ blocks ! $ sets ! (of_opd ! (get ! refl)) refl (tt, tt) $ sets ! (of_opd ! (get ! refl)) refl t $

@@ -46,9 +46,9 @@ returns c =
     let counts = c.requires.counts in
     let more = edges_more h.edges (c.args.u, c.args.v) absent in
     let edges = counts.edges in
-    let room = c.if-counts-limits.false in
+    let fits = c.if-counts-limits.false in
     record {
-      accepted = linked h c.args.limits.now c.args.u c.args.v from onto (fits_more (has_edge h c.args.u c.args.v) (set.len h.edges) c.args.counts.edges c.args.limits.now.edges edges room);
+      accepted = linked h c.args.limits.now c.args.u c.args.v from onto (fits_more (has_edge h c.args.u c.args.v) (set.len h.edges) c.args.counts.edges c.args.limits.now.edges edges fits);
       can = (from, onto);
       alters = sym (ap not absent);
       counts = record {

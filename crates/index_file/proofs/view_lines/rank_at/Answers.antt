@@ -9,9 +9,9 @@ returns-in-Some-clause-text c = λ s p w.
     let block = c.args.summary.now.blocks.block_of in
     let e : at block c.args.n ≡ Some c.in-Some.b = sym c.block_of.ensures.block ∙ c.in-Some.is in
     let below = block_below c.args.summary.now.blocks.labels c.in-Some.b c.in-Some.ensures.live in
-    let room = c.requires.within in
+    let fits = c.requires.within in
     let step = step_some s block c.args.ranks.now.of.items c.rank-rank.new.self.of.items c.args.n c.in-Some.b c.rank-rank.result c.args.ranks.now.count c.rank-rank.new.self.count p w e
-    (omega (arith, below, room)) c.rank-rank.ensures.again c.rank-rank.ensures.fresh in
+    (omega (arith, below, fits)) c.rank-rank.ensures.again c.rank-rank.ensures.fresh in
     text_some s block c.args.n c.in-Some.b c.rank-rank.result p e step.0
 
 pub returns-in-Some-clause-ranks : goal.returns-in-Some-clause-ranks
@@ -19,9 +19,9 @@ returns-in-Some-clause-ranks c = λ s p w.
     let block = c.args.summary.now.blocks.block_of in
     let e : at block c.args.n ≡ Some c.in-Some.b = sym c.block_of.ensures.block ∙ c.in-Some.is in
     let below = block_below c.args.summary.now.blocks.labels c.in-Some.b c.in-Some.ensures.live in
-    let room = c.requires.within in
+    let fits = c.requires.within in
     let step = step_some s block c.args.ranks.now.of.items c.rank-rank.new.self.of.items c.args.n c.in-Some.b c.rank-rank.result c.args.ranks.now.count c.rank-rank.new.self.count p w e
-    (omega (arith, below, room)) c.rank-rank.ensures.again c.rank-rank.ensures.fresh in
+    (omega (arith, below, fits)) c.rank-rank.ensures.again c.rank-rank.ensures.fresh in
     step.1
 
 pub returns-in-None-clause-text : goal.returns-in-None-clause-text

@@ -6,7 +6,7 @@ use Rattle.graph_spec.specs.Members.{has}
 use Rattle.path_automaton.specs.MarkRows.{HasRows}
 use Rattle.path_automaton.specs.ListedPairs.{all_at, IsTaken}
 use Rattle.path_automaton.specs.NewMarks.{SpreadsOver, SucceedsOne, IsEntered, MarksOne}
-use Rattle.path_automaton.proofs.PairMarks.{members_le, room_on, falls, length_at, row_there}
+use Rattle.path_automaton.proofs.PairMarks.{members_le, wide_on, falls, length_at, row_there}
 use Rattle.path_automaton.proofs.SearchInvariant.{searching_begins, searching_next, searching_ends, state_listed, place_listed, ends_in, marks_inside, none_rises, IsSearching}
 use Rattle.std.specs.Prelude.{MatchOption}
 use Rattle.path_automaton.proofs.searching.search_in.Goals as goal
@@ -16,7 +16,7 @@ taken_of ks k places o s is h = subst (λ o. MatchOption o (ks ≡ []) (λ x. Is
 
 pub mark_all-requires-clause-there : goal.mark_all-requires-clause-there
 mark_all-requires-clause-there g c =
-    let l = c.in_ok-frontier.ensures.room c.args.start (subst (λ n. c.args.start < n) (sym c.count.ensures.count) c.requires.start) in
+    let l = c.in_ok-frontier.ensures.wide c.args.start (subst (λ n. c.args.start < n) (sym c.count.ensures.count) c.requires.start) in
     row_there c.in_ok-frontier.frontier.rows.items c.args.start 0 (omega arith)
 
 pub runs-init : goal.runs-init
@@ -31,10 +31,10 @@ runs-init g c =
     let made = c.in_ok-frontier.ensures in
     let begun = c.in_ok-mark_all.ensures in
     let none = c.in_ok-answers.ensures in
-    let room : HasRows states (span + 1) c.in_ok-frontier.frontier.rows.items =
-    subst (λ n. HasRows states (n + 1) c.in_ok-frontier.frontier.rows.items) size (subst (λ n. HasRows n (c.size-size.result + 1) c.in_ok-frontier.frontier.rows.items) c.count.ensures.count made.room) in
+    let wide : HasRows states (span + 1) c.in_ok-frontier.frontier.rows.items =
+    subst (λ n. HasRows states (n + 1) c.in_ok-frontier.frontier.rows.items) size (subst (λ n. HasRows n (c.size-size.result + 1) c.in_ok-frontier.frontier.rows.items) c.count.ensures.count made.wide) in
     record {
-      room = room_on states (span + 1) c.in_ok-frontier.frontier.rows.items c.mark_all.new.self.rows.items begun.spreads.wide room;
+      wide = wide_on states (span + 1) c.in_ok-frontier.frontier.rows.items c.mark_all.new.self.rows.items begun.spreads.wide wide;
       size = ap (λ b. b.size) none ∙ size;
       searching = subst (λ a. IsSearching at span label_at edge First c.args.start states c.mark_all.new.self.rows.items c.mark_all.new.self.worklist a) (sym (ap (λ b. b.members) none))
           (searching_begins at span label_at edge First c.args.start states c.in_ok-frontier.frontier.rows.items c.mark_all.new.self.rows.items c.mark_all.new.self.worklist
@@ -92,7 +92,7 @@ runs-preserved g c =
     let visited = c.deref-in-Some.ensures.value in
     let ends : (u v : ℕ) → IsTrue (edge u v) → IsSome (label_at v) = ends_in (g.S.Scope.keeps c.args.scope.now) (g.G.Digraph.label_at c.args.g.now) (g.G.Digraph.edge c.args.g.now) (g.met.G.Digraph.ends c.args.g.now) in
     record {
-      room = room_on states (span + 1) rows after.rows.items v.spreads.wide kept.room;
+      wide = wide_on states (span + 1) rows after.rows.items v.spreads.wide kept.wide;
       size = n.size ∙ kept.size;
       searching = searching_next at span label_at edge First c.args.start states rows after.rows.items c.runs.frontier.worklist c.take.new.self after.worklist c.in-Some.state places
           c.runs.answers.members c.note_ends.new.answers.members kept.searching t.last

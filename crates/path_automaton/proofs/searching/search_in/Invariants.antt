@@ -8,7 +8,7 @@ use Rattle.path_automaton.proofs.searching.search_in.Given as goal
 
 abbrev pub invariant-runs : goal.invariant-runs
 invariant-runs g l = record {
-  room : HasRows (length l.program) (g.G.Digraph.span l.g + 1) l.frontier.rows.items;
+  wide : HasRows (length l.program) (g.G.Digraph.span l.g + 1) l.frontier.rows.items;
   size : l.answers.size ≡ g.G.Digraph.span l.g;
   searching : IsSearching (λ k. slice_get l.program k) (g.G.Digraph.span l.g) (label_in (g.S.Scope.keeps l.scope) (g.G.Digraph.label_at l.g)) (edge_in (g.S.Scope.keeps l.scope) (g.G.Digraph.edge l.g)) (λ v. IsTrue (has l.fn.places v)) l.start (length l.program) l.frontier.rows.items l.frontier.worklist l.answers.members;
 }

@@ -7,12 +7,12 @@ pub returns-then-ne-clause-ok : goal.returns-then-ne-clause-ok
 returns-then-ne-clause-ok g c =
     let kept = rw c.skip.ensures at c.in_ok-fill_empty.ensures.keeps in
     let other : slice_get c.fill_empty.new.self 0 ≢ Some 10 = grind arith in
-    takes-return c.args.room c.args.window.now c.fill_empty.new.self (g.H.Shelf.left c.args.shelf.now) (g.H.Shelf.left c.fill_empty.new.shelf)
-    c.requires.room c.requires.at kept c.in_ok-fill_empty.ensures.over other
+    takes-return c.args.most c.args.window.now c.fill_empty.new.self (g.H.Shelf.left c.args.shelf.now) (g.H.Shelf.left c.fill_empty.new.shelf)
+    c.requires.most c.requires.at kept c.in_ok-fill_empty.ensures.over other
 
-pub returns-then-room-lt2-clause-limit : goal.returns-then-room-lt2-clause-limit
-returns-then-room-lt2-clause-limit g c p =
+pub returns-then-most-lt2-clause-limit : goal.returns-then-most-lt2-clause-limit
+returns-then-most-lt2-clause-limit g c p =
     let kept = rw c.skip.ensures at c.in_ok-fill_empty.ensures.keeps in
     let same : slice_get c.fill_empty.new.self 0 ≡ Some 10 = grind arith in
-    both-pass c.args.room c.args.window.now c.fill_empty.new.self (g.H.Shelf.left c.args.shelf.now) (g.H.Shelf.left c.fill_empty.new.shelf)
-    c.if-room-lt2.true c.requires.at kept same
+    both-pass c.args.most c.args.window.now c.fill_empty.new.self (g.H.Shelf.left c.args.shelf.now) (g.H.Shelf.left c.fill_empty.new.shelf)
+    c.if-most-lt2.true c.requires.at kept same

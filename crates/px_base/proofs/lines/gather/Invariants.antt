@@ -4,9 +4,9 @@ use Rattle.px_base.proofs.lines.gather.Given as goal
 
 abbrev pub invariant-loop-window : goal.invariant-loop-window
 invariant-loop-window g l =
-    SoFar l.room l.fn.line.items l.line.items l.fn.window l.window l.fn.shelf l.shelf
+    SoFar l.most l.fn.line.items l.line.items l.fn.window l.window l.fn.shelf l.shelf
     (prepend_known l.fn.window (g.H.Shelf.left l.fn.shelf)) (prepend_known l.window (g.H.Shelf.left l.shelf))
     (g.H.Shelf.files l.fn.shelf) (g.H.Shelf.files l.shelf) (g.H.Shelf.faults l.fn.shelf) (g.H.Shelf.faults l.shelf) (g.H.Shelf.is_open l.shelf)
 
 abbrev pub decreases-loop-window : goal.decreases-loop-window
-decreases-loop-window g l = steps_left l.room l.line.items l.window
+decreases-loop-window g l = steps_left l.most l.line.items l.window

@@ -7,7 +7,7 @@ use Rattle.bisim_spec.specs.declared.sides.Side.TheVariants.{Children}
 use Rattle.graph_update.specs.PendingChanges.{graph_after}
 use Rattle.quotient_draft.specs.Drafts.{with_moves, with_supports, shown_blocks, shown_support}
 use Rattle.quotient_moves.specs.Shifts.{lead_count, MovesNode}
-use Rattle.quotient_moves.proofs.Moved.{moved_set, moved_same, moved_at, parts_most, shifted_all, room_for}
+use Rattle.quotient_moves.proofs.Moved.{moved_set, moved_same, moved_at, parts_most, shifted_all, capacity_for}
 use Rattle.quotient_moves.proofs.moving.move_node.Goals as goal
 
 pub shift_neighbours-requires-clause-some : goal.shift_neighbours-requires-clause-some
@@ -25,7 +25,7 @@ shift_neighbours-requires-clause-few g c = λ x y p2 d.
     let p = shown_blocks c.args.base.now c.args.draft.now in
     let few : set.len edges ≤ 2 ^ 30 = c.created-known.ensures.few_edges in
     let lp : Lists (λ u. set.contains edges (u, c.args.n)) c.deref.result.now = subst (Lists (λ u. set.contains edges (u, c.args.n))) (sym c.deref.ensures.value) c.in_ok-read_parents.ensures.parents in
-    let reserved = room_for edges c.args.n c.deref.result.now c.read_children.new.list.items lp c.in_ok-read_children.ensures.children p p2 x y few in
+    let reserved = capacity_for edges c.args.n c.deref.result.now c.read_children.new.list.items lp c.in_ok-read_children.ensures.children p p2 x y few in
     let same = c.requires.supports.each x y in
     omega (arith, reserved, same)
 
@@ -58,7 +58,7 @@ shift_neighbours-requires-2-clause-few g c = λ x y p2 d0.
     let lc : Lists (λ u. set.contains edges (n, u)) children = subst (Lists (λ u. set.contains edges (n, u))) (sym c.deref-2.ensures.value) c.in_ok-read_children.ensures.children in
     let d = moved_same n c.block_of-own.result c.args.b p (shown_blocks q c.shift_neighbours.new.draft) p2 (ap (with_moves q.blocks.block_of) c.in_ok-shift_neighbours.ensures.moves) d0 in
     let first = c.in_ok-shift_neighbours.ensures.shifted x y p2 d in
-    let reserved = room_for edges n parents children lp lc p p2 x y few in
+    let reserved = capacity_for edges n parents children lp lc p p2 x y few in
     let same = c.requires.supports.each x y in
     omega (arith, first, reserved, same)
 

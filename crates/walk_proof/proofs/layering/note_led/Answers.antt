@@ -12,7 +12,7 @@ note-requires-in-loop-i-clause-place g c =
     let p = get_or parents c.loop-i.i 0 in
     let edge = sym (c.parents-parents.ensures.members p) ∙ has_at parents c.loop-i.i c.loop-i-test.true in
     let below = g.met.G.Digraph.below c.args.g.now p (g.met.G.Digraph.ends c.args.g.now p c.args.node edge).0 in
-    let size = c.loop-i.invariant.notes.sizes c.args.state ∙ c.requires.room in
+    let size = c.loop-i.invariant.notes.sizes c.args.state ∙ c.requires.wide in
     omega (arith, below, size)
 
 pub loop-i-preserved : goal.loop-i-preserved

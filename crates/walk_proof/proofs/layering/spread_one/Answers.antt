@@ -1,15 +1,15 @@
 use Rattle.std.proofs.Common.{ℕ, get_or}
 use Rattle.std.specs.Prelude.{slice_get}
 use Rattle.state_sets.proofs.Lists.{has_at}
-use Rattle.walk_proof.proofs.MarkLaws.{room_on}
+use Rattle.walk_proof.proofs.MarkLaws.{wide_on}
 use Rattle.walk_proof.proofs.LoopLaws.{read_source_next, read_source_marked}
 use Rattle.walk_proof.proofs.layering.spread_one.Goals as goal
 
 pub spread_source-requires-clause-source : goal.spread_source-requires-clause-source
 spread_source-requires-clause-source g c = c.requires.sources (get_or c.args.sources.now c.loop-i.i 0) (has_at c.args.sources.now c.loop-i.i c.loop-i-test.true)
 
-pub spread_source-requires-clause-room : goal.spread_source-requires-clause-room
-spread_source-requires-clause-room g c = room_on _ _ _ _ _ _ _ c.loop-i.invariant.notes c.requires.room
+pub spread_source-requires-clause-wide : goal.spread_source-requires-clause-wide
+spread_source-requires-clause-wide g c = wide_on _ _ _ _ _ _ _ c.loop-i.invariant.notes c.requires.wide
 
 pub loop-i-preserved : goal.loop-i-preserved
 loop-i-preserved g c =

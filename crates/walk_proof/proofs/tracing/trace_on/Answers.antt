@@ -35,7 +35,7 @@ nodes-init g c =
     let t = tracing_begins at size label_at edge v start d layers rows0 is last first full states rows0 closed below kept in
     record {
       within = omega (arith, last);
-      rows = c.requires.room.count;
+      rows = c.requires.wide.count;
       behind = c.requires.behind;
       states = λ s h. subst (λ m. s < m) c.requires.behind (c.list.ensures.below s (subst (λ xs. IsTrue (has xs s)) c.list.ensures.list ((kept s).0 h).0));
       place = inl place;

@@ -11,8 +11,8 @@ fill-requires-clause-below c = subst (λ n. BeginBelow n (from_own c.args.side c
 pub fill-requires-clause-starts : goal.fill-requires-clause-starts
 fill-requires-clause-starts c = subst (λ n. AreStarts (from_own c.args.side c.args.edges.now) n c.in_ok-ends.ends.items) (sym c.in_ok-ends.ensures.all) c.in_ok-ends.ensures
 
-pub fill-requires-clause-room : goal.fill-requires-clause-room
-fill-requires-clause-room c = ap length (c.in_ok-items.ensures.items_if_clones_equal (λ y h. h)) ∙ length-replicate (length c.args.edges.now) 0
+pub fill-requires-clause-sized : goal.fill-requires-clause-sized
+fill-requires-clause-sized c = ap length (c.in_ok-items.ensures.items_if_clones_equal (λ y h. h)) ∙ length-replicate (length c.args.edges.now) 0
 
 pub returns : goal.returns
 returns c =
