@@ -11,7 +11,7 @@ use Rattle.bisim_spec.specs.Reach.{within_distance}
 use Rattle.bisim_spec.proofs.Reached.{within_next, within_step, within_cases}
 use Rattle.affected_nodes.specs.AffectedSearches.{IsSpread}
 
--- one more number, where it isn't there yet
+-- one more number, if it isn't there yet
 pub prefix_if : (keys new : List ℕ) (n : ℕ) (b : Bool) → new ≡ cond b keys (keys ++ n ∷ []) → (rest : List ℕ) × (new ≡ keys ++ rest)
 prefix_if keys new n true e = ([], e ∙ sym (append-nil keys))
 prefix_if keys new n false e = (n ∷ [], e)

@@ -15,7 +15,7 @@ use Rattle.bisim_spec.specs.MinimalIndex.{IsMinimalIndex}
 use Rattle.bisim_spec.specs.IndexGraphs.{View, ViewFits}
 use Rattle.bisim_spec.specs.SidedLevels.{AtLevel}
 
--- the view of a level; none where it isn't computed, and past the end
+-- the view of a level; none if it isn't computed, and past the end
 abbrev pub view_at : List (Option View) → ℕ → Option View
 view_at views i = slice_index_or views i None
 

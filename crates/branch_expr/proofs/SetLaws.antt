@@ -200,9 +200,9 @@ module _ (L : ℕ → Option ℕ) (s : Shape) (ends : (u v : ℕ) → IsTrue (s.
     λ p. (image c).1 (p.0, (h p.0).1 ((along_ends L s.edge ends a p.0 c p.2).0, p.1), p.2),
   )
 
-  pub set_plain : (a : tree.Axis) (t : tree.Test) (ps : List tree.Or) (found : List ℕ) → [] ≡ ps → IsLed (turned a) t found → IsSetOf L found (Goes s (tree.go a (tree.step t (preds_of ps)) tree.end))
+  pub set_plain : (a : tree.Axis) (t : tree.Test) (ps : List tree.Or) (found : List ℕ) → [] ≡ ps → IsLed (turned a) t found → IsSetOf L found (Goes s (tree.go a (tree.step t (preds_of ps)) tree.no_step))
   set_plain a t ps found none image =
-      subst (λ y. IsSetOf L found (Goes s (tree.go a (tree.step t (preds_of y)) tree.end))) none
+      subst (λ y. IsSetOf L found (Goes s (tree.go a (tree.step t (preds_of y)) tree.no_step))) none
       (λ v. (
         λ m.
             let p = (image v).0 m in
@@ -213,9 +213,9 @@ module _ (L : ℕ → Option ℕ) (s : Shape) (ends : (u v : ℕ) → IsTrue (s.
 
   pub spared_plain : (a : tree.Axis) (t : tree.Test) (ps : List tree.Or) (old new : List ℕ) → [] ≡ ps
       → ((c : ℕ) → IsTrue (has new c) ↔ (IsTrue (has old c) × (((v : ℕ) × Passes s t v × Along s.edge (turned a) v c) → ⊥)))
-      → Keeps old new (λ v. Goes s (tree.go a (tree.step t (preds_of ps)) tree.end) v → ⊥)
+      → Keeps old new (λ v. Goes s (tree.go a (tree.step t (preds_of ps)) tree.no_step) v → ⊥)
   spared_plain a t ps old new none spared =
-      subst (λ y. Keeps old new (λ v. Goes s (tree.go a (tree.step t (preds_of y)) tree.end) v → ⊥)) none
+      subst (λ y. Keeps old new (λ v. Goes s (tree.go a (tree.step t (preds_of y)) tree.no_step) v → ⊥)) none
       (λ v. (
         λ m. let p = (spared v).0 m in (p.0, λ x. p.1 (x.0, x.2.0, back_along s.edge a x.0 v x.1)),
         λ p. (spared v).1 (p.0, λ x. p.1 (x.0, along_back s.edge a x.0 v x.2, (x.1, tt), tt)),
@@ -255,7 +255,7 @@ module _ (L : ℕ → Option ℕ) (s : Shape) (ends : (u v : ℕ) → IsTrue (s.
     meets_node (tree.step tree.any ps) v h = node v h.0
 
     pub end_node : (st : tree.Step) (ch : tree.Chain) (u v : ℕ) → Meets s st u → Ends s ch u v → IsSome (L v)
-    end_node st tree.end u v m h = subst (λ x. IsSome (L x)) h (meets_node st u m)
+    end_node st tree.no_step u v m h = subst (λ x. IsSome (L x)) h (meets_node st u m)
     end_node st (tree.go a st2 ch) u v m h = end_node st2 ch h.0 v h.2 h.3
 
 pub node_label : (f : ℕ → Option (List ℕ)) (o : Option ℕ) → IsSome (option_and_then f o) → IsSome o

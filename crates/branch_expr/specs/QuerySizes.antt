@@ -1,6 +1,6 @@
 -- How many parts a tree has.
 use Rattle.std.specs.Prelude.{ℕ, ◌+◌}
-use Rattle.branch_spec.specs.Trees.{Step, step, Preds, none, pred, Or, one, or, And, lone, and, Cond, fails, group, rel, always, Chain, end, go}
+use Rattle.branch_spec.specs.Trees.{Step, step, Preds, none, pred, Or, one, or, And, lone, and, Cond, fails, group, rel, always, Chain, no_step, go}
 
 abbrev mutual
   -- how many parts alternatives have, the empty ends of lists among them; tests and axes aren't counted
@@ -31,5 +31,5 @@ abbrev mutual
 
   -- how many parts a chain has
   pub chain_nodes : Chain → ℕ
-  chain_nodes end = 1
+  chain_nodes no_step = 1
   chain_nodes (go a s ch) = step_nodes s + chain_nodes ch + 1

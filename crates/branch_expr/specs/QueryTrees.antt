@@ -27,7 +27,7 @@ step_of s = tree.step (test_of s.test) (preds_of s.preds.items)
 
 -- the chain of these hops
 abbrev pub chain_of : List Hop → tree.Chain
-chain_of [] = tree.end
+chain_of [] = tree.no_step
 chain_of (h ∷ hs) = tree.go (axis_of h.axis) (step_of h.step) (chain_of hs)
 
 -- the chain of a relative path: its first hop, and then the rest

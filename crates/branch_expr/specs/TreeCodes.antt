@@ -2,7 +2,7 @@
 use Rattle.std.specs.Prelude.{◌≡◌, ◌≢◌, ℕ, List, refl}
 use Rattle.std.proofs.Common.{ap, arith}
 use base.Stored.{Gv, gnil, gnum, gcons, Coded, coded_ℕ, coded_list}
-use Rattle.branch_spec.specs.Trees.{Axis, child, below, parent, above, Test, label, any, Step, step, Preds, none, pred, Or, one, or, And, lone, and, Cond, fails, group, rel, always, Chain, end, go, Branch, branch}
+use Rattle.branch_spec.specs.Trees.{Axis, child, below, parent, above, Test, label, any, Step, step, Preds, none, pred, Or, one, or, And, lone, and, Cond, fails, group, rel, always, Chain, no_step, go, Branch, first_step}
 
 abbrev head : Gv → Gv
 head gnil = gnil
@@ -79,7 +79,7 @@ abbrev mutual
   cond_code always = gcons (gnum 3) gnil
 
   pub chain_code : Chain → Gv
-  chain_code end = gcons (gnum 0) gnil
+  chain_code no_step = gcons (gnum 0) gnil
   chain_code (go x0 x1 x2) = gcons (gnum 1) (gcons (axis_code x0) (gcons (step_code x1) (chain_code x2)))
 
 mutual
@@ -126,19 +126,19 @@ mutual
   cond_inj always always p = refl
 
   pub chain_inj : (x y : Chain) → chain_code x ≡ chain_code y → x ≡ y
-  chain_inj end end p = refl
-  chain_inj end (go y0 y1 y2) p = absurd (apart 0 1 p (omega arith))
-  chain_inj (go x0 x1 x2) end p = absurd (apart 1 0 p (omega arith))
+  chain_inj no_step no_step p = refl
+  chain_inj no_step (go y0 y1 y2) p = absurd (apart 0 1 p (omega arith))
+  chain_inj (go x0 x1 x2) no_step p = absurd (apart 1 0 p (omega arith))
   chain_inj (go x0 x1 x2) (go y0 y1 y2) p =
       λ i. go (axis_inj x0 y0 (ap (λ g. head (tail g)) p) i) (step_inj x1 y1 (ap (λ g. head (tail (tail g))) p) i)
       (chain_inj x2 y2 (ap (λ g. tail (tail (tail g))) p) i)
 
 abbrev branch_code : Branch → Gv
-branch_code (branch x0 x1) = gcons (step_code x0) (chain_code x1)
+branch_code (first_step x0 x1) = gcons (step_code x0) (chain_code x1)
 
 -- queries of one code are the same
 pub branch_inj : (x y : Branch) → branch_code x ≡ branch_code y → x ≡ y
-branch_inj (branch x0 x1) (branch y0 y1) p = λ i. branch (step_inj x0 y0 (ap (λ g. head g) p) i) (chain_inj x1 y1 (ap (λ g. tail g) p) i)
+branch_inj (first_step x0 x1) (first_step y0 y1) p = λ i. first_step (step_inj x0 y0 (ap (λ g. head g) p) i) (chain_inj x1 y1 (ap (λ g. tail g) p) i)
 
 -- alternatives have codes
 abbrev pub coded_or : Coded Or

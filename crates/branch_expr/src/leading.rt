@@ -80,7 +80,7 @@ pub(crate) fn passing_children<G: Digraph>(
     ensures image { IfOk result (λ b. HasJust b.members (HasParent (G.edge g.now) (Passes (G.label_at g.now) test))) }
 {
     let mut image = Bits::new(alloc, g.size())?;
-    let mut noted = [0; 1024];
+    let mut noted = [0; RUN];
     let mut from = 0;
     while from < g.size() {
         let to = end_of_run(from, g.size());
@@ -123,7 +123,7 @@ pub(crate) fn remove_passing_children<G: Digraph>(g: &G, test: Option<u32>, set:
     ensures size { set.new.size ≡ set.old.size }
     ensures members { Loses set.old.members set.new.members (HasParent (G.edge g.now) (Passes (G.label_at g.now) test)) }
 {
-    let mut noted = [0; 1024];
+    let mut noted = [0; RUN];
     let mut from = 0;
     while from < g.size() {
         let to = end_of_run(from, g.size());

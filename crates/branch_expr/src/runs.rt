@@ -19,11 +19,11 @@ pub(crate) fn is_passing<G: Digraph>(g: &G, test: Option<u32>, n: NodeId) -> boo
 /// How many nodes are tested before those that pass are used: few enough for their numbers to stay in the nearest
 /// memory. They are noted in an array, which no other memory overlaps, so that what a test reads of the graph stays in
 /// registers.
-pub(crate) const RUN: u32 = 1024;
+pub(crate) const RUN: usize = 1024;
 
 /// Puts a number behind the first `count` of a list, and answers how many there are then: one more if it is wanted.
 #[inline(always)]
-fn note_if(noted: &mut [u32; 1024], count: usize, n: NodeId, wanted: bool) -> usize
+fn note_if(noted: &mut [u32; RUN], count: usize, n: NodeId, wanted: bool) -> usize
     requires { count < length noted.old }
     ensures length { length noted.new ≡ length noted.old }
     ensures within { result ≤ count + 1 }
@@ -41,7 +41,7 @@ pub(crate) fn note_passing<G: Digraph>(
     test: Option<u32>,
     from: NodeId,
     to: NodeId,
-    noted: &mut [u32; 1024],
+    noted: &mut [u32; RUN],
 ) -> usize
     requires order { from ≤ to }
     requires fits { to ≤ from + length noted.old }
@@ -59,7 +59,7 @@ pub(crate) fn note_passing<G: Digraph>(
 /// Notes the members of a set from `from` on and below `to`, and tells how many they are. It has no branch that depends on
 /// whether a number is one.
 #[inline(always)]
-pub(crate) fn note_members(set: &Bits, from: u32, to: u32, noted: &mut [u32; 1024]) -> usize
+pub(crate) fn note_members(set: &Bits, from: u32, to: u32, noted: &mut [u32; RUN]) -> usize
     requires order { from ≤ to }
     requires fits { to ≤ from + length noted.old }
     ensures length { length noted.new ≡ length noted.old }
@@ -80,5 +80,5 @@ pub(crate) fn end_of_run(from: u32, size: u32) -> u32
     ensures within { result ≤ size }
     ensures few { result ≤ from + 1024 }
 {
-    if size - from < RUN { size } else { from + RUN }
+    if size - from < RUN as u32 { size } else { from + RUN as u32 }
 }

@@ -9,7 +9,7 @@ use label_graph::Digraph;
 use px_base::{Bits, Memory, NodeId};
 use std::alloc::Global;
 
-/// Takes the number out of the set where it isn't to stay.
+/// Takes the number out of the set if it isn't to stay.
 #[inline(always)]
 fn remove_unless(set: &mut Bits, n: NodeId, stays: bool)
     requires { n < set.old.size }
@@ -82,7 +82,7 @@ pub(crate) fn passing<G: Digraph>(alloc: Global, g: &G, test: Option<u32>) -> Re
     ensures members { IfOk result (λ s. HasJust s.members (Passes (G.label_at g.now) test)) }
 {
     let mut set = Bits::new(alloc, g.size())?;
-    let mut noted = [0; 1024];
+    let mut noted = [0; RUN];
     let mut from = 0;
     while from < g.size() {
         let to = end_of_run(from, g.size());
@@ -110,7 +110,7 @@ pub(crate) fn keep_labelled<G: Digraph>(g: &G, label: u32, set: &mut Bits)
     ensures size { set.new.size ≡ set.old.size }
     ensures members { Keeps set.old.members set.new.members (λ n. G.label_at g.now n ≡ Some label) }
 {
-    let mut noted = [0; 1024];
+    let mut noted = [0; RUN];
     let mut from = 0;
     while from < set.size() {
         let to = end_of_run(from, set.size());

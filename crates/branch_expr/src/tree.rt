@@ -108,7 +108,7 @@ pub struct BranchTree {
 }
 
 impl Model for BranchTree {
-    ghost use Rattle.branch_spec.specs.Trees.{Branch, branch};
+    ghost use Rattle.branch_spec.specs.Trees.{Branch, first_step};
     ghost use Rattle.branch_expr.specs.TreeCodes.{coded_branch};
     ghost use Rattle.branch_expr.specs.QueryTrees.{step_of, chain_of};
 
@@ -116,5 +116,5 @@ impl Model for BranchTree {
 
     ghost coded = { coded_branch };
 
-    ghost view = { λ q. branch (step_of q.first) (chain_of q.rest.items) };
+    ghost view = { λ q. first_step (step_of q.first) (chain_of q.rest.items) };
 }

@@ -2,7 +2,7 @@
 use Rattle.std.proofs.Common.{ℕ, zero, suc, List, [], ◌∷◌, true, false, IsTrue, refl, sym, subst, true≢false}
 use Rattle.std.specs.Prelude.{codes}
 use Rattle.graph_spec.specs.Shapes.{Shape, IsShape}
-use Rattle.branch_spec.specs.Trees.{child, label, Step, step, none, pred, Or, one, lone, fails, rel, end, branch}
+use Rattle.branch_spec.specs.Trees.{child, label, Step, step, none, pred, Or, one, lone, fails, rel, no_step, first_step}
 use Rattle.branch_spec.specs.BranchAnswers.{Meets}
 use Rattle.bisim_spec.specs.Tests.{bis}
 use Rattle.bisim_spec.proofs.WrittenShapes.{shape_of_list, shape_from}
@@ -24,14 +24,14 @@ is_shape : IsShape two_heads
 is_shape = shape_from labels edges refl
 
 abbrev has_b : Or
-has_b = one (lone (rel child (step (label (codes "b")) none) end))
+has_b = one (lone (rel child (step (label (codes "b")) none) no_step))
 
 -- a[not(/b)]
 abbrev first : Step
 first = step (label (codes "a")) (pred (one (lone (fails has_b))) none)
 
 abbrev without_b : Query
-without_b = queries.branch (branch first end)
+without_b = queries.of_branch (first_step first no_step)
 
 -- n2 answers, and n0 doesn't
 alone_answers : IsQueryAnswer two_heads without_b 2

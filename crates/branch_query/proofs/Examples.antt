@@ -8,7 +8,7 @@ use Rattle.path_spec.specs.Matches.{Matches}
 use Rattle.path_spec.specs.PathAnswers.{IsAnswer}
 use Rattle.bisim_spec.specs.Tests.{bis}
 use Rattle.bisim_spec.proofs.WrittenShapes.{shape_of_list, shape_from}
-use Rattle.branch_query.specs.Queries.{path, IsQueryAnswer}
+use Rattle.branch_query.specs.Queries.{of_path, IsQueryAnswer}
 use Rattle.branch_query.specs.Candidates.{loose, IsCandidate}
 
 -- n0 to n2 are a chain a, b, c, and n3 to n5 one x, b, c
@@ -35,14 +35,14 @@ matches_abc : Matches a_b_c (codes "a" ∷ codes "b" ∷ codes "c" ∷ [])
 matches_abc = (codes "a" ∷ [], codes "b" ∷ codes "c" ∷ [], refl, (codes "b" ∷ [], codes "c" ∷ [], refl, refl, refl), refl)
 
 -- told apart by level 1 alone, n2 and n5 are together, and both are candidates of a/b/c
-near_candidate : IsCandidate two_chains (bis two_chains 1) (path a_b_c) false 2
+near_candidate : IsCandidate two_chains (bis two_chains 1) (of_path a_b_c) false 2
 near_candidate = (codes "a" ∷ codes "b" ∷ codes "c" ∷ [], matches_abc, 0, (refl, 1, refl, (refl, 2, refl, (refl, refl))))
 
-far_candidate : IsCandidate two_chains (bis two_chains 1) (path a_b_c) false 5
+far_candidate : IsCandidate two_chains (bis two_chains 1) (of_path a_b_c) false 5
 far_candidate = (codes "a" ∷ codes "b" ∷ codes "c" ∷ [], matches_abc, 0, (refl, 1, refl, (refl, 5, refl, (refl, refl))))
 
 -- a path expression is its own relaxed form
-whole_candidate : IsCandidate two_chains (bis two_chains 1) (path a_b_c) true 5
+whole_candidate : IsCandidate two_chains (bis two_chains 1) (of_path a_b_c) true 5
 whole_candidate = far_candidate
 
 -- a word that matches is this one
@@ -64,7 +64,7 @@ other_label : two_chains.label 3 ≢ Some (codes "a")
 other_label e = omega (arith, ap (λ o. slice_index (unwrap_or o []) 0) e)
 
 -- so n5 is no answer of the graph itself
-no_answer : ¬ IsQueryAnswer two_chains (path a_b_c) 5
+no_answer : ¬ IsQueryAnswer two_chains (of_path a_b_c) 5
 no_answer = no_walk two_chains last_edge first_edge other_label
   where
     last_edge : (u : ℕ) → IsTrue (two_chains.edge u 5) → u ≡ 4
@@ -89,7 +89,7 @@ no_answer = no_walk two_chains last_edge first_edge other_label
 abbrev by_two : Shape
 by_two = loose two_chains (bis two_chains 2)
 
-no_candidate : ¬ IsCandidate two_chains (bis two_chains 2) (path a_b_c) true 5
+no_candidate : ¬ IsCandidate two_chains (bis two_chains 2) (of_path a_b_c) true 5
 no_candidate = no_walk by_two last_edge first_edge other_label
   where
     last_edge : (u : ℕ) → IsTrue (by_two.edge u 5) → u ≡ 4

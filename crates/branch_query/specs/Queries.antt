@@ -14,19 +14,19 @@ use Rattle.branch_query.specs.declared.queries.Query.TheVariants as asked
 -- a path expression or a branching query
 pub data Query : Type 0 where
   -- a path expression
-  path : Expr → Query
+  of_path : Expr → Query
   -- a branching query
-  branch : Branch → Query
+  of_branch : Branch → Query
 
 -- the query that the code's value stands for
 abbrev pub query_of : Asked → Query
-query_of (asked.Path e) = path e.now
-query_of (asked.Branch q) = branch q.now
+query_of (asked.Path e) = of_path e.now
+query_of (asked.Branch q) = of_branch q.now
 
 -- the node answers the query
 abbrev pub IsQueryAnswer : Shape → Query → ℕ → Type 0
-IsQueryAnswer s (path e) v = IsAnswer s e v
-IsQueryAnswer s (branch q) v = IsBranchAnswer s q v
+IsQueryAnswer s (of_path e) v = IsAnswer s e v
+IsQueryAnswer s (of_branch q) v = IsBranchAnswer s q v
 
 -- the nodes are those that answer the query, each once, in the order of their numbers
 pub record AreQueryAnswers (s : Shape) (q : Query) (nodes : List ℕ) : Type 0 where
@@ -40,8 +40,8 @@ pub record AreQueryAnswers (s : Shape) (q : Query) (nodes : List ℕ) : Type 0 w
 -- What a query asks where more edges may be seen than there are: what it denies is left out, as what holds everywhere. A path
 -- expression denies nothing, and is its own relaxed form.
 abbrev pub relaxed : Query → Query
-relaxed (path e) = path e
-relaxed (branch q) = branch (relax q)
+relaxed (of_path e) = of_path e
+relaxed (of_branch q) = of_branch (relax q)
 
 -- the whole query, or its relaxed form
 abbrev pub searched_form : Bool → Query → Query

@@ -3,7 +3,7 @@
 use Rattle.std.proofs.Common.{◌≡◌, ℕ, suc, inl, inr, ap, refl, sym, ◌∙◌, subst, IsTrue, Option, Some}
 use Rattle.graph_spec.specs.Shapes.{Shape}
 use Rattle.path_spec.specs.Longest.{greater}
-use Rattle.branch_spec.specs.Trees.{Axis, child, below, parent, above, Step, step, Preds, none, pred, Or, one, or, And, lone, and, Cond, fails, group, rel, always, Chain, end, go, Branch, branch}
+use Rattle.branch_spec.specs.Trees.{Axis, child, below, parent, above, Step, step, Preds, none, pred, Or, one, or, And, lone, and, Cond, fails, group, rel, always, Chain, no_step, go, Branch, first_step}
 use Rattle.branch_spec.specs.BranchAnswers.{Along, Meets, HoldAll, HoldsOr, HoldsAnd, HoldsCond, Goes, Ends, IsBranchAnswer}
 use Rattle.branch_spec.specs.Depths.{further, step_depth, preds_depth, or_depth, and_depth, cond_depth, chain_depth, depth_from, depth, IsUpTo}
 use Rattle.branch_spec.proofs.AnswersAgree.{passes}
@@ -95,7 +95,7 @@ mutual
   holds_cond always s t R a i u x w r h = tt
 
   goes : (ch : Chain) (s t : Shape) (R : ℕ → ℕ → ℕ → Type 0) → AlikeBy s t R → (i u x : ℕ) → IsUpTo (chain_depth ch) i → R i u x → Goes s ch u → Goes t ch x
-  goes end s t R a i u x w r h = tt
+  goes no_step s t R a i u x w r h = tt
   goes (go b p ch) s t R a i u x w r h =
       let l = along_axis s t R a.there b (greater (step_depth p) (chain_depth ch)) i u x h.0 w r h.1 in
       let both = both_up_to (step_depth p) (chain_depth ch) l.level l.within in
@@ -111,7 +111,7 @@ record IsBegun (t : Shape) (R : ℕ → ℕ → ℕ → Type 0) (ch : Chain) (d 
 
 begun : (ch : Chain) (s t : Shape) (R : ℕ → ℕ → ℕ → Type 0) → AlikeBy s t R → (d : Option ℕ) (i u v y : ℕ) → IsUpTo (depth_from d ch) i → R i v y → Ends s ch u v
     → IsBegun t R ch d u y
-begun end s t R a d i u v y w r h = record { node = y; level = i; ends = refl; related = subst (λ z. R i z y) (sym h) r; within = w }
+begun no_step s t R a d i u v y w r h = record { node = y; level = i; ends = refl; related = subst (λ z. R i z y) (sym h) r; within = w }
 begun (go b p ch) s t R a d i u v y w r h =
     let k = begun ch s t R a (greater (further b d) (step_depth p)) i h.0 v y w r h.3 in
     let both = both_up_to (further b d) (step_depth p) k.level k.within in
@@ -126,6 +126,6 @@ begun (go b p ch) s t R a d i u v y w r h =
 
 -- nodes that are related at the depth of a query answer it alike
 pub alike_by : (s t : Shape) (R : ℕ → ℕ → ℕ → Type 0) → AlikeBy s t R → (q : Branch) (i v y : ℕ) → IsUpTo (depth q) i → R i v y → IsBranchAnswer s q v → IsBranchAnswer t q y
-alike_by s t R a (branch p ch) i v y w r h =
+alike_by s t R a (first_step p ch) i v y w r h =
     let k = begun ch s t R a (step_depth p) i h.0 v y w r h.2 in
     (k.node, meets p s t R a k.level h.0 k.node k.within k.related h.1, k.ends)

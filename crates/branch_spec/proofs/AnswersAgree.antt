@@ -3,7 +3,7 @@
 use Rattle.std.proofs.Common.{◌≡◌, ℕ, inl, inr, ap, refl, sym, ◌∙◌, subst, IsTrue}
 use Rattle.std.specs.Prelude.{is_some}
 use Rattle.graph_spec.specs.Shapes.{Shape}
-use Rattle.branch_spec.specs.Trees.{Axis, child, below, parent, above, Test, label, any, Step, step, Preds, none, pred, Or, one, or, And, lone, and, Cond, fails, group, rel, always, Chain, end, go, Branch, branch}
+use Rattle.branch_spec.specs.Trees.{Axis, child, below, parent, above, Test, label, any, Step, step, Preds, none, pred, Or, one, or, And, lone, and, Cond, fails, group, rel, always, Chain, no_step, go, Branch, first_step}
 use Rattle.branch_spec.specs.BranchAnswers.{Reaches, direct, further, Along, Passes, Meets, HoldAll, HoldsOr, HoldsAnd, HoldsCond, Goes, Ends, IsBranchAnswer}
 
 -- each edge of the one has one of the other beside it
@@ -76,13 +76,13 @@ mutual
   holds_cond always s t R a u x r h = tt
 
   goes : (ch : Chain) (s t : Shape) (R : ℕ → ℕ → Type 0) → AnswersAgree s t R → (u x : ℕ) → R u x → Goes s ch u → Goes t ch x
-  goes end s t R a u x r h = tt
+  goes no_step s t R a u x r h = tt
   goes (go b p ch) s t R a u x r h =
       let l = along s t R a.there b u x h.0 r h.1 in
       (l.0, l.1, meets p s t R a h.0 l.0 l.2 h.2, goes ch s t R a h.0 l.0 l.2 h.3)
 
 ends : (ch : Chain) (s t : Shape) (R : ℕ → ℕ → Type 0) → AnswersAgree s t R → (u v y : ℕ) → R v y → Ends s ch u v → (x : ℕ) × Ends t ch x y × R u x
-ends end s t R a u v y r h = (y, refl, subst (λ z. R z y) (sym h) r)
+ends no_step s t R a u v y r h = (y, refl, subst (λ z. R z y) (sym h) r)
 ends (go b p ch) s t R a u v y r h =
     let i = ends ch s t R a h.0 v y r h.3 in
     let l = along_back s t R a.there b h.0 i.0 u i.2 h.1 in
@@ -90,6 +90,6 @@ ends (go b p ch) s t R a u v y r h =
 
 -- related nodes answer the same queries
 pub alike : (s t : Shape) (R : ℕ → ℕ → Type 0) → AnswersAgree s t R → (q : Branch) (v y : ℕ) → R v y → IsBranchAnswer s q v → IsBranchAnswer t q y
-alike s t R a (branch p ch) v y r h =
+alike s t R a (first_step p ch) v y r h =
     let e = ends ch s t R a h.0 v y r h.2 in
     (e.0, meets p s t R a h.0 e.0 e.2 h.1, e.1)

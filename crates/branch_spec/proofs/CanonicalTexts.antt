@@ -3,7 +3,7 @@ use Rattle.std.proofs.Common.{ℕ, List, [], ◌∷◌, ◌++◌, refl, ap}
 use Rattle.std.specs.Prelude.{codes}
 use Rattle.std.specs.List.{flat_map}
 use Rattle.path_spec.specs.Spelling.{EndsName, EndsSlash}
-use Rattle.branch_spec.specs.Trees.{Axis, child, below, parent, above, Test, label, any, Step, step, Preds, none, pred, Or, one, or, And, lone, and, Cond, fails, group, rel, always, Chain, end, go, Branch, branch}
+use Rattle.branch_spec.specs.Trees.{Axis, child, below, parent, above, Test, label, any, Step, step, Preds, none, pred, Or, one, or, And, lone, and, Cond, fails, group, rel, always, Chain, no_step, go, Branch, first_step}
 use Rattle.branch_spec.specs.Tokens.{Token, lab, underscore, axis, left, right, opening, closing, not_word, and_word, or_word, nothing, test_onto, step_onto, preds_onto, or_onto, and_onto, cond_onto, chain_onto, tokens, EndsOr, EndsAnd, EndsChain, EndsStep}
 use Rattle.branch_spec.specs.Spelling.{EndsBackslash, EndsToken, axis_text, token_text, canonical, SpellsTokens, Spells}
 use Rattle.branch_spec.proofs.OneQuery.{ends_or_and, ends_and_chain, chain_ends}
@@ -120,11 +120,11 @@ mutual
   apart_cond always r h k = (tt, k)
 
   apart_chain : (ch : Chain) (r : List Token) → EndsChain r → AreApart r → AreApart (chain_onto ch r)
-  apart_chain end r h k = k
+  apart_chain no_step r h k = k
   apart_chain (go a s ch) r h k = (step_no_axis s (chain_onto ch r), apart_step s (chain_onto ch r) (chain_ends ch r h) (apart_chain ch r h k))
 
 apart : (q : Branch) → AreApart (tokens q)
-apart (branch s ch) = apart_step s (chain_onto ch []) (chain_ends ch [] tt) (apart_chain ch [] tt tt)
+apart (first_step s ch) = apart_step s (chain_onto ch []) (chain_ends ch [] tt) (apart_chain ch [] tt tt)
 
 name_ends : (r : List Token) → NoName r → EndsName (flat_map token_text r)
 name_ends [] h = tt

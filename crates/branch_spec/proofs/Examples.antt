@@ -2,7 +2,7 @@
 use Rattle.std.proofs.Common.{◌≡◌, ℕ, zero, suc, List, refl, sym, Bool, true, false, true≢false, Option, Some, None}
 use Rattle.std.specs.Prelude.{codes}
 use Rattle.graph_spec.specs.Shapes.{Shape}
-use Rattle.branch_spec.specs.Trees.{child, below, parent, above, label, any, Step, step, none, pred, Or, one, or, lone, and, Cond, fails, group, rel, always, end, go, Branch, branch}
+use Rattle.branch_spec.specs.Trees.{child, below, parent, above, label, any, Step, step, none, pred, Or, one, or, lone, and, Cond, fails, group, rel, always, no_step, go, Branch, first_step}
 use Rattle.branch_spec.specs.BranchAnswers.{direct, further, HoldsCond, IsBranchAnswer}
 use Rattle.branch_spec.specs.Relaxed.{relax}
 use Rattle.branch_spec.specs.Spelling.{canonical}
@@ -33,18 +33,18 @@ alone c = one (lone c)
 
 -- whether a child has the label
 abbrev has_child : List ℕ → Cond
-has_child t = rel child (plain t) end
+has_child t = rel child (plain t) no_step
 
 -- a//d
 abbrev a_below_d : Branch
-a_below_d = branch (plain (codes "a")) (go below (plain (codes "d")) end)
+a_below_d = first_step (plain (codes "a")) (go below (plain (codes "d")) no_step)
 
 d_answers : IsBranchAnswer small a_below_d 3
 d_answers = (0, (refl, tt), (3, further 0 1 3 (direct 0 1 refl) refl, (refl, tt), refl))
 
 -- d\\a
 abbrev d_above_a : Branch
-d_above_a = branch (plain (codes "d")) (go above (plain (codes "a")) end)
+d_above_a = first_step (plain (codes "d")) (go above (plain (codes "a")) no_step)
 
 a_answers : IsBranchAnswer small d_above_a 0
 a_answers = (3, (refl, tt), (0, further 0 1 3 (direct 0 1 refl) refl, (refl, tt), refl))
@@ -58,23 +58,23 @@ some_d h = h (3, refl, (refl, tt), tt)
 
 -- _[/b and not(/d)]
 abbrev b_but_not_d : Branch
-b_but_not_d = branch (step any (pred (one (and (has_child (codes "b")) (lone (fails (alone (has_child (codes "d"))))))) none)) end
+b_but_not_d = first_step (step any (pred (one (and (has_child (codes "b")) (lone (fails (alone (has_child (codes "d"))))))) none)) no_step
 
 -- relaxed, it denies nothing
-relaxed_query : relax b_but_not_d ≡ branch (step any (pred (one (and (has_child (codes "b")) (lone always))) none)) end
+relaxed_query : relax b_but_not_d ≡ first_step (step any (pred (one (and (has_child (codes "b")) (lone always))) none)) no_step
 relaxed_query = refl
 
 -- what a 'not' denies isn't looked into, and all before it stays
-nested_query : relax (branch (step any (pred (alone (group (alone (fails (alone (fails (alone (has_child (codes "d"))))))))) none)) end)
-    ≡ branch (step any (pred (alone (group (alone always))) none)) end
+nested_query : relax (first_step (step any (pred (alone (group (alone (fails (alone (fails (alone (has_child (codes "d"))))))))) none)) no_step)
+    ≡ first_step (step any (pred (alone (group (alone always))) none)) no_step
 nested_query = refl
 
 canonical_query : canonical b_but_not_d ≡ codes "_[/b and not(/d)]"
 canonical_query = refl
 
-canonical_axes : canonical (branch (plain (codes "a")) (go below (plain (codes "b")) (go parent (step any none) (go above (plain (codes "c")) end)))) ≡ codes "a//b\\_\\\\c"
+canonical_axes : canonical (first_step (plain (codes "a")) (go below (plain (codes "b")) (go parent (step any none) (go above (plain (codes "c")) no_step)))) ≡ codes "a//b\\_\\\\c"
 canonical_axes = refl
 
-canonical_group : canonical (branch (step (label (codes "a")) (pred (or (lone (group (one (lone (has_child (codes "b")))))) (one (lone (rel parent (plain (codes "c")) (go child (step any none) end))))) none)) end)
+canonical_group : canonical (first_step (step (label (codes "a")) (pred (or (lone (group (one (lone (has_child (codes "b")))))) (one (lone (rel parent (plain (codes "c")) (go child (step any none) no_step))))) none)) no_step)
     ≡ codes "a[(/b) or \\c/_]"
 canonical_group = refl

@@ -1,6 +1,6 @@
 -- A list of tokens has at most one reading.
 use Rattle.std.proofs.Common.{◌≡◌, List, [], ◌∷◌, refl, sym, ap, subst}
-use Rattle.branch_spec.specs.Trees.{Test, label, any, Step, step, Preds, none, pred, Or, one, or, And, lone, and, Cond, fails, group, rel, always, Chain, end, go, Branch, branch}
+use Rattle.branch_spec.specs.Trees.{Test, label, any, Step, step, Preds, none, pred, Or, one, or, And, lone, and, Cond, fails, group, rel, always, Chain, no_step, go, Branch, first_step}
 use Rattle.branch_spec.specs.Tokens.{Token, lab, underscore, axis, left, right, opening, closing, not_word, and_word, or_word, nothing, test_onto, step_onto, preds_onto, or_onto, and_onto, cond_onto, chain_onto, tokens, EndsOr, EndsAnd, EndsChain, EndsStep}
 
 pub ends_or_and : (r : List Token) → EndsOr r → EndsAnd r
@@ -47,7 +47,7 @@ ends_chain_step (nothing ∷ r) h = h
 
 -- a step may end where a chain begins
 pub chain_ends : (ch : Chain) (r : List Token) → EndsChain r → EndsStep (chain_onto ch r)
-chain_ends end r h = ends_chain_step r h
+chain_ends no_step r h = ends_chain_step r h
 chain_ends (go a st ch) r h = tt
 
 pub one_test : (t u : Test) (r q : List Token) → test_onto t r ≡ test_onto u q → (t ≡ u) × (r ≡ q)
@@ -128,9 +128,9 @@ mutual
   one_cond always always r q k h j = (refl, cc (k))
 
   pub one_chain : (ch ci : Chain) (r q : List Token) → chain_onto ch r ≡ chain_onto ci q → EndsChain r → EndsChain q → (ch ≡ ci) × (r ≡ q)
-  one_chain end end r q k h j = (refl, k)
-  one_chain end (go b t ci) r q k h j = absurd (subst EndsChain k h)
-  one_chain (go a s ch) end r q k h j = absurd (subst EndsChain (sym k) j)
+  one_chain no_step no_step r q k h j = (refl, k)
+  one_chain no_step (go b t ci) r q k h j = absurd (subst EndsChain k h)
+  one_chain (go a s ch) no_step r q k h j = absurd (subst EndsChain (sym k) j)
   one_chain (go a s ch) (go b t ci) r q k h j =
       let same : a ≡ b = cc (k) in
       let tails : step_onto s (chain_onto ch r) ≡ step_onto t (chain_onto ci q) = cc (k) in
@@ -140,7 +140,7 @@ mutual
 
 -- the law
 pub one_reading : (p q : Branch) → tokens p ≡ tokens q → p ≡ q
-one_reading (branch s ch) (branch t ci) k =
+one_reading (first_step s ch) (first_step t ci) k =
     let a = one_step s t (chain_onto ch []) (chain_onto ci []) k (chain_ends ch [] tt) (chain_ends ci [] tt) in
     let b = one_chain ch ci [] [] a.1 tt tt in
-    λ i. branch (a.0 i) (b.0 i)
+    λ i. first_step (a.0 i) (b.0 i)

@@ -2,7 +2,7 @@
 use Rattle.std.proofs.Common.{◌≡◌, ℕ, inl, inr, ap, ◌∙◌, IsTrue}
 use Rattle.std.specs.Prelude.{is_some}
 use Rattle.graph_spec.specs.Shapes.{Shape, IsNode}
-use Rattle.branch_spec.specs.Trees.{Axis, child, below, parent, above, Test, label, any, Step, step, Preds, none, pred, Or, one, or, And, lone, and, Cond, fails, group, rel, always, Chain, end, go, Branch, branch}
+use Rattle.branch_spec.specs.Trees.{Axis, child, below, parent, above, Test, label, any, Step, step, Preds, none, pred, Or, one, or, And, lone, and, Cond, fails, group, rel, always, Chain, no_step, go, Branch, first_step}
 use Rattle.branch_spec.specs.BranchAnswers.{Reaches, direct, further, Along, Passes, Meets, HoldAll, HoldsOr, HoldsAnd, HoldsCond, Goes, Ends, IsBranchAnswer}
 use Rattle.branch_spec.specs.Relaxed.{relax_step, relax_preds, relax_or, relax_and, relax_cond, relax_chain, relax}
 
@@ -50,13 +50,13 @@ module _ (s t : Shape) (f : ℕ → ℕ) where
       holds_cond always v h = tt
 
       goes : (ch : Chain) (v : ℕ) → Goes s ch v → Goes t (relax_chain ch) (f v)
-      goes end v h = tt
+      goes no_step v h = tt
       goes (go a p ch) v h = (f h.0, along a v h.0 h.1, meets p h.0 h.2, goes ch h.0 h.3)
 
     ends : (ch : Chain) (u v : ℕ) → Ends s ch u v → Ends t (relax_chain ch) (f u) (f v)
-    ends end u v h = ap f h
+    ends no_step u v h = ap f h
     ends (go a p ch) u v h = (f h.0, along a u h.0 h.1, meets p h.0 h.2, ends ch h.0 v h.3)
 
     -- each answer is, once mapped, an answer of the relaxed query
     pub relaxed : (q : Branch) (v : ℕ) → IsBranchAnswer s q v → IsBranchAnswer t (relax q) (f v)
-    relaxed (branch p ch) v h = (f h.0, meets p h.0 h.1, ends ch h.0 v h.2)
+    relaxed (first_step p ch) v h = (f h.0, meets p h.0 h.1, ends ch h.0 v h.2)

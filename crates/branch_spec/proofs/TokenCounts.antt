@@ -1,7 +1,7 @@
 -- A query has a token or more for each edge of its depth, and no fewer than its relaxed form.
 use Rattle.std.proofs.Common.{◌≡◌, ℕ, ◌+◌, ◌≤◌, List, [], ◌∷◌, length, Option, None, Some, arith}
 use Rattle.path_spec.specs.Longest.{greater}
-use Rattle.branch_spec.specs.Trees.{Axis, child, below, parent, above, Test, label, any, Step, step, Preds, none, pred, Or, one, or, And, lone, and, Cond, fails, group, rel, always, Chain, end, go, Branch, branch}
+use Rattle.branch_spec.specs.Trees.{Axis, child, below, parent, above, Test, label, any, Step, step, Preds, none, pred, Or, one, or, And, lone, and, Cond, fails, group, rel, always, Chain, no_step, go, Branch, first_step}
 use Rattle.branch_spec.specs.Relaxed.{relax_step, relax_preds, relax_or, relax_and, relax_cond, relax_chain, relax}
 use Rattle.branch_spec.specs.Tokens.{Token, axis, right, opening, closing, not_word, and_word, or_word, nothing, test_onto, step_onto, preds_onto, or_onto, and_onto, cond_onto, chain_onto, tokens}
 use Rattle.branch_spec.specs.Depths.{further, step_depth, preds_depth, or_depth, and_depth, cond_depth, chain_depth, depth_from, depth, IsUpTo}
@@ -89,14 +89,14 @@ mutual
   cond_adds always r = omega arith
 
   chain_adds : (ch : Chain) (r : List Token) → Adds (chain_depth ch) r (chain_onto ch r)
-  chain_adds end r = omega arith
+  chain_adds no_step r = omega arith
   chain_adds (go a s ch) r =
       let more = chain_onto ch r in
       further_adds a (greater (step_depth s) (chain_depth ch)) r (step_onto s more)
       (greater_adds (step_depth s) (chain_depth ch) r more (step_onto s more) (step_adds s more) (chain_adds ch r))
 
 from_adds : (ch : Chain) (d : Option ℕ) (r all : List Token) → Adds d (chain_onto ch r) all → Adds (depth_from d ch) r all
-from_adds end d r all h = h
+from_adds no_step d r all h = h
 from_adds (go a s ch) d r all h =
     let more = chain_onto ch r in
     from_adds ch (greater (further a d) (step_depth s)) r all
@@ -108,7 +108,7 @@ up_to (Some n) all k h e = let same : n ≡ k = cc (e) in omega (arith, h, same)
 
 -- the depth of a query is at most the number of its tokens
 pub few_edges : (q : Branch) (d : ℕ) → depth q ≡ Some d → d ≤ length (tokens q)
-few_edges (branch s ch) d e =
+few_edges (first_step s ch) d e =
     up_to (depth_from (step_depth s) ch) (step_onto s (chain_onto ch [])) d
     (from_adds ch (step_depth s) [] (step_onto s (chain_onto ch [])) (step_adds s (chain_onto ch []))) e
 
@@ -151,11 +151,11 @@ mutual
   relaxed_cond always r q h = omega (arith, h)
 
   relaxed_chain : (ch : Chain) (r q : List Token) → length q ≤ length r → length (chain_onto (relax_chain ch) q) ≤ length (chain_onto ch r)
-  relaxed_chain end r q h = h
+  relaxed_chain no_step r q h = h
   relaxed_chain (go a s ch) r q h =
       let more = relaxed_step s (chain_onto ch r) (chain_onto (relax_chain ch) q) (relaxed_chain ch r q h) in
       omega (arith, more)
 
 -- a relaxed query has no more tokens
 pub relaxed_few : (q : Branch) → length (tokens (relax q)) ≤ length (tokens q)
-relaxed_few (branch s ch) = relaxed_step s (chain_onto ch []) (chain_onto (relax_chain ch) []) (relaxed_chain ch [] [] (omega arith))
+relaxed_few (first_step s ch) = relaxed_step s (chain_onto ch []) (chain_onto (relax_chain ch) []) (relaxed_chain ch [] [] (omega arith))

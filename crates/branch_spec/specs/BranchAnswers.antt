@@ -3,7 +3,7 @@ use Rattle.std.specs.Prelude.{ℕ, ◌≡◌, ◌⊎◌, Bool, List, Some, IsTru
 use Rattle.std.specs.List.Sorted.{IsStrictlyIncreasing}
 use Rattle.graph_spec.specs.Members.{has}
 use Rattle.graph_spec.specs.Shapes.{Shape, IsNode}
-use Rattle.branch_spec.specs.Trees.{Axis, child, below, parent, above, Test, label, any, Step, step, Preds, none, pred, Or, one, or, And, lone, and, Cond, fails, group, rel, always, Chain, end, go, Branch, branch}
+use Rattle.branch_spec.specs.Trees.{Axis, child, below, parent, above, Test, label, any, Step, step, Preds, none, pred, Or, one, or, And, lone, and, Cond, fails, group, rel, always, Chain, no_step, go, Branch, first_step}
 
 -- one or more edges lead from u to v
 pub data Reaches (edge : ℕ → ℕ → Bool) : ℕ → ℕ → Type 0 where
@@ -51,17 +51,17 @@ abbrev mutual
 
   -- some nodes lead on from the node along the chain, each meeting its step
   pub Goes : Shape → Chain → ℕ → Type 0
-  Goes s end v = Unit {0}
+  Goes s no_step v = Unit {0}
   Goes s (go a st ch) v = (c : ℕ) × Along s.edge a v c × Meets s st c × Goes s ch c
 
 -- some nodes lead from u to v along the chain, each meeting its step
 abbrev pub Ends : Shape → Chain → ℕ → ℕ → Type 0
-Ends s end u v = u ≡ v
+Ends s no_step u v = u ≡ v
 Ends s (go a st ch) u v = (c : ℕ) × Along s.edge a u c × Meets s st c × Ends s ch c v
 
 -- from some node that meets the first step, wherever it lies, nodes lead to this one along the others
 abbrev pub IsBranchAnswer : Shape → Branch → ℕ → Type 0
-IsBranchAnswer s (branch st ch) v = (u : ℕ) × Meets s st u × Ends s ch u v
+IsBranchAnswer s (first_step st ch) v = (u : ℕ) × Meets s st u × Ends s ch u v
 
 -- the nodes are the answers, each once, in the order of their numbers
 pub record AreBranchAnswers (s : Shape) (q : Branch) (nodes : List ℕ) : Type 0 where

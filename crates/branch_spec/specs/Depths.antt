@@ -2,7 +2,7 @@
 -- Kaushik, P. Bohannon, J. F. Naughton and H. F. Korth, "Covering Indexes for Branching Path Queries", SIGMOD 2002).
 use Rattle.std.specs.Prelude.{ℕ, suc, ◌≤◌, Option, None, Some}
 use Rattle.path_spec.specs.Longest.{greater}
-use Rattle.branch_spec.specs.Trees.{Axis, child, below, parent, above, Step, step, Preds, none, pred, Or, one, or, And, lone, and, Cond, fails, group, rel, always, Chain, end, go, Branch, branch}
+use Rattle.branch_spec.specs.Trees.{Axis, child, below, parent, above, Step, step, Preds, none, pred, Or, one, or, And, lone, and, Cond, fails, group, rel, always, Chain, no_step, go, Branch, first_step}
 
 -- one edge further
 abbrev pub one_more : Option ℕ → Option ℕ
@@ -46,18 +46,18 @@ abbrev mutual
 
   -- one axis further than its first step and the chain behind it; 0 at the end
   pub chain_depth : Chain → Option ℕ
-  chain_depth end = Some 0
+  chain_depth no_step = Some 0
   chain_depth (go a st ch) = further a (greater (step_depth st) (chain_depth ch))
 
 -- How far from the end of a chain it looks, where d is how far from its beginning the steps before look: each axis
 -- puts these one edge further off.
 abbrev pub depth_from : Option ℕ → Chain → Option ℕ
-depth_from d end = d
+depth_from d no_step = d
 depth_from d (go a st ch) = depth_from (greater (further a d) (step_depth st)) ch
 
 -- the depth of a branching query; none where there is no bound
 abbrev pub depth : Branch → Option ℕ
-depth (branch st ch) = depth_from (step_depth st) ch
+depth (first_step st ch) = depth_from (step_depth st) ch
 
 -- there is a depth, and it is at most this one
 abbrev pub IsUpTo : Option ℕ → ℕ → Type 0

@@ -1,5 +1,5 @@
 -- Relaxed queries: whatever is denied is left out, and what holds everywhere stands in its place.
-use Rattle.branch_spec.specs.Trees.{Step, step, Preds, none, pred, Or, one, or, And, lone, and, Cond, fails, group, rel, always, Chain, end, go, Branch, branch}
+use Rattle.branch_spec.specs.Trees.{Step, step, Preds, none, pred, Or, one, or, And, lone, and, Cond, fails, group, rel, always, Chain, no_step, go, Branch, first_step}
 
 abbrev mutual
   -- the test stays, and the predicates are relaxed
@@ -30,9 +30,9 @@ abbrev mutual
 
   -- each step is relaxed, and the axes stay
   pub relax_chain : Chain → Chain
-  relax_chain end = end
+  relax_chain no_step = no_step
   relax_chain (go a st ch) = go a (relax_step st) (relax_chain ch)
 
 -- the first step and its chain are relaxed
 abbrev pub relax : Branch → Branch
-relax (branch st ch) = branch (relax_step st) (relax_chain ch)
+relax (first_step st ch) = first_step (relax_step st) (relax_chain ch)

@@ -1,6 +1,6 @@
 -- The tokens of a query. Each tree has just one list of them, since its parentheses are kept.
 use Rattle.std.specs.Prelude.{ℕ, List, [], ◌∷◌}
-use Rattle.branch_spec.specs.Trees.{Axis, Test, label, any, Step, step, Preds, none, pred, Or, one, or, And, lone, and, Cond, fails, group, rel, always, Chain, end, go, Branch, branch}
+use Rattle.branch_spec.specs.Trees.{Axis, Test, label, any, Step, step, Preds, none, pred, Or, one, or, And, lone, and, Cond, fails, group, rel, always, Chain, no_step, go, Branch, first_step}
 
 -- what the text of a query is made of, but for its blanks
 pub data Token : Type 0 where
@@ -57,12 +57,12 @@ abbrev mutual
 
   -- each step behind its axis
   pub chain_onto : Chain → List Token → List Token
-  chain_onto end r = r
+  chain_onto no_step r = r
   chain_onto (go a st ch) r = axis a ∷ step_onto st (chain_onto ch r)
 
 -- the first step, and its chain behind it
 abbrev pub onto : Branch → List Token → List Token
-onto (branch st ch) r = step_onto st (chain_onto ch r)
+onto (first_step st ch) r = step_onto st (chain_onto ch r)
 
 -- the tokens of the whole query
 abbrev pub tokens : Branch → List Token

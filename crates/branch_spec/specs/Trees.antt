@@ -53,9 +53,9 @@ mutual
 
   -- steps, each after its axis
   pub data Chain : Type 0 where
-    end : Chain
+    no_step : Chain
     go : Axis → Step → Chain → Chain
 
 -- a first step, and more, each after its axis
 pub data Branch : Type 0 where
-  branch : Step → Chain → Branch
+  first_step : Step → Chain → Branch

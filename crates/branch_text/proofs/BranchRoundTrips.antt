@@ -107,7 +107,7 @@ mutual
   past_cond tree.always r h = h
 
   past_chain : (ch : tree.Chain) (r : List Token) → AreLabels (chain_onto ch r) → AreLabels r
-  past_chain tree.end r h = h
+  past_chain tree.no_step r h = h
   past_chain (tree.go a s ch) r h = past_chain ch r (past_step s (chain_onto ch r) h)
 
 mutual
@@ -133,8 +133,8 @@ mutual
   kept_cond tree.always r q k h = k h
 
   kept_chain : (ch : tree.Chain) (r q : List Token) → (AreLabels r → AreLabels q) → AreLabels (chain_onto ch r) → AreLabels (chain_onto (relax_chain ch) q)
-  kept_chain tree.end r q k h = k h
+  kept_chain tree.no_step r q k h = k h
   kept_chain (tree.go a s ch) r q k h = kept_step s (chain_onto ch r) (chain_onto (relax_chain ch) q) (kept_chain ch r q k) h
 
 pub labels_relaxed : (q : tree.Branch) → AreLabels (tokens q) → AreLabels (tokens (relax q))
-labels_relaxed (tree.branch s ch) h = kept_step s (chain_onto ch []) (chain_onto (relax_chain ch) []) (kept_chain ch [] [] (λ x. x)) h
+labels_relaxed (tree.first_step s ch) h = kept_step s (chain_onto ch []) (chain_onto (relax_chain ch) []) (kept_chain ch [] [] (λ x. x)) h

@@ -52,13 +52,13 @@ mutual
   cond_is tree.always r = refl
 
   chain_is : (ch : tree.Chain) (r : List Token) → text (chain_onto ch r) ≡ chain_text ch ++ text r
-  chain_is tree.end r = refl
+  chain_is tree.no_step r = refl
   chain_is (tree.go a s ch) r =
       ap (λ x. axis_text a ++ x) (then_is (step_text s) (chain_text ch) (text r) _ _ (step_is s (chain_onto ch r)) (chain_is ch r))
       ∙ sym (append_assoc (axis_text a) (step_text s ++ chain_text ch) (text r))
 
 pub canonical_is : (q : tree.Branch) → branch_text q ≡ canonical q
-canonical_is (tree.branch s ch) =
+canonical_is (tree.first_step s ch) =
     sym (then_is (step_text s) (chain_text ch) [] _ _ (step_is s (chain_onto ch [])) (chain_is ch []) ∙ append-nil (step_text s ++ chain_text ch))
 
 -- one part more

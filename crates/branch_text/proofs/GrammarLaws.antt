@@ -64,9 +64,9 @@ step_begins (tree.step t ps) r = (t, preds_onto ps r, refl)
 -- what stands behind an axis is a step, and more
 pub chain_peel : (hs : List Hop) (a : tree.Axis) (x : List Token) (ch : tree.Chain) (r : List Token) → EndsChain r → chain_onto (chain_of hs) (axis a ∷ x) ≡ chain_onto ch r
     → (s : tree.Step) × (ci : tree.Chain) × (x ≡ step_onto s (chain_onto ci r))
-chain_peel [] a x tree.end r h k = absurd (subst EndsChain (sym k) h)
+chain_peel [] a x tree.no_step r h k = absurd (subst EndsChain (sym k) h)
 chain_peel [] a x (tree.go b s ci) r h k = (s, ci, cc (k))
-chain_peel (g ∷ hs) a x tree.end r h k = absurd (subst EndsChain (sym k) h)
+chain_peel (g ∷ hs) a x tree.no_step r h k = absurd (subst EndsChain (sym k) h)
 chain_peel (g ∷ hs) a x (tree.go b s ci) r h k =
     let tails : step_onto (step_of g.step) (chain_onto (chain_of hs) (axis a ∷ x)) ≡ step_onto s (chain_onto ci r) = cc (k) in
     let d = one_step (step_of g.step) s (chain_onto (chain_of hs) (axis a ∷ x)) (chain_onto ci r) tails (hops_end hs a x) (chain_ends ci r h) in
@@ -192,16 +192,16 @@ seen_nil (t ∷ ts) e = cc
 
 -- what was read as a whole query leaves nothing
 pub all_read : (x : List Token) (s : tree.Step) (ch : tree.Chain) (ts : List token.Token) (q : tree.Branch) → x ≡ step_onto s (chain_onto ch (seen ts)) → EndsChain (seen ts) → x ≡ tokens q → length ts ≡ 0
-all_read x s ch ts (tree.branch u ci) h ends k =
+all_read x s ch ts (tree.first_step u ci) h ends k =
     let a = one_step s u (chain_onto ch (seen ts)) (chain_onto ci []) (sym h ∙ k) (chain_ends ch (seen ts) ends) (chain_ends ci [] tt) in
     seen_nil ts (one_chain ch ci (seen ts) [] a.1 ends tt).1
 
 pub query_begins : (q : tree.Branch) → (s : tree.Step) × (r : List Token) × EndsStep r × (tokens q ≡ step_onto s r)
-query_begins (tree.branch s ch) = (s, chain_onto ch [], chain_ends ch [] tt, refl)
+query_begins (tree.first_step s ch) = (s, chain_onto ch [], chain_ends ch [] tt, refl)
 
 -- behind the first step stand the others
 pub query_rest : (x y : List Token) (s : tree.Step) (q : tree.Branch) → x ≡ step_onto s y → EndsStep y → x ≡ tokens q → (ch : tree.Chain) × (y ≡ chain_onto ch [])
-query_rest x y s (tree.branch u ci) h ends k = (ci, (one_step s u y (chain_onto ci []) (sym h ∙ k) ends (chain_ends ci [] tt)).1)
+query_rest x y s (tree.first_step u ci) h ends k = (ci, (one_step s u y (chain_onto ci []) (sym h ∙ k) ends (chain_ends ci [] tt)).1)
 
 pub rel_rest : (x y z : List Token) (b a : tree.Axis) (t s : tree.Step) (ch : tree.Chain) (r : List Token) → x ≡ axis b ∷ y → y ≡ step_onto t z → EndsStep z → EndsChain r → x ≡ chain_onto (tree.go a s ch) r
     → z ≡ chain_onto ch r

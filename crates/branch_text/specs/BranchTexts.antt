@@ -1,6 +1,6 @@
 -- The canonical text of a tree, part by part.
 use Rattle.std.specs.Prelude.{ℕ, List, [], ◌∷◌, ◌++◌, codes}
-use Rattle.branch_spec.specs.Trees.{Test, label, any, Step, step, Preds, none, pred, Or, one, or, And, lone, and, Cond, fails, group, rel, always, Chain, end, go, Branch, branch}
+use Rattle.branch_spec.specs.Trees.{Test, label, any, Step, step, Preds, none, pred, Or, one, or, And, lone, and, Cond, fails, group, rel, always, Chain, no_step, go, Branch, first_step}
 use Rattle.branch_spec.specs.Spelling.{axis_text}
 
 -- a label as it is, or `_` (95) for any
@@ -37,9 +37,9 @@ abbrev mutual
 
   -- hops, one behind another, each an axis and a step
   pub chain_text : Chain → List ℕ
-  chain_text end = []
+  chain_text no_step = []
   chain_text (go a st ch) = axis_text a ++ (step_text st ++ chain_text ch)
 
 -- the first step, and behind it the hops that follow
 abbrev pub branch_text : Branch → List ℕ
-branch_text (branch st ch) = step_text st ++ chain_text ch
+branch_text (first_step st ch) = step_text st ++ chain_text ch

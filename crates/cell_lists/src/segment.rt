@@ -67,7 +67,7 @@ pub fn spare(segment: &Segment) -> usize
     }
 }
 
-/// Reserves capacity for one number more than that many, where there isn't. The list then lies behind all others, and the
+/// Reserves capacity for one number more than that many, unless it is there. The list then lies behind all others, and the
 /// cells that it had are used no more. O(1), or O(n) to move a list of n numbers; where memory runs out the list stays.
 #[inline(always)]
 pub fn make_place(cells: &mut Vec<u32>, segment: &mut Segment, taken: usize) -> Result<(), Memory>
@@ -84,7 +84,7 @@ pub fn make_place(cells: &mut Vec<u32>, segment: &mut Segment, taken: usize) -> 
     Ok(())
 }
 
-/// Reserves capacity for that many numbers more, where there isn't. The list then lies behind all others, and the cells
+/// Reserves capacity for that many numbers more, unless it is there. The list then lies behind all others, and the cells
 /// that it had are used no more. O(1), or O(n) to move a list of n numbers, amortized O(m) for m numbers one by one; where
 /// memory runs out the list stays.
 pub fn make_places(cells: &mut Vec<u32>, segment: &mut Segment, more: usize) -> Result<(), Memory>

@@ -21,4 +21,4 @@ pub record AreAnswersOfTexts (triples path nodes : List ℕ) : Type 0 where
   pub expr : Expr
   pub spells : SpellsPath path expr
   -- its answers there
-  pub answers : query.AreQueryAnswers (shape_of linked) (query.path expr) nodes
+  pub answers : query.AreQueryAnswers (shape_of linked) (query.of_path expr) nodes

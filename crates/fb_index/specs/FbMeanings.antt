@@ -6,7 +6,7 @@ use Rattle.quotient.specs.Quotients.{Quotient, view_of}
 use Rattle.index_api.specs.Meanings.{Meaning}
 use Rattle.fb_index.specs.declared.index.FbIndex.{FbIndex}
 
--- its one view, none where it isn't computed
+-- its one view, none if it isn't computed
 abbrev pub views_of : Option Quotient → List (Option View)
 views_of summary = option_map view_of summary ∷ []
 

@@ -13,7 +13,7 @@ ghost use Rattle.graph_effects.specs.Effects.{ListsPairs, is_new_node, is_new_ed
 ghost use Rattle.graph_effects.specs.StepEffects.{pair_if, names_pair as naming, unless_named as pair_unless, named_last as pair_last};
 ghost use Rattle.graph_effects.specs.StepEffects.{passing, named_where, is_cut, edges_from_live, goes_with};
 
-use crate::lists::Edges;
+use crate::lists::FewEdges;
 use crate::places::{step_at, step_count};
 use graph_steps::{Change, Step};
 use graph_update::After;
@@ -98,7 +98,7 @@ fn named_last(step: &Step, change: &Change, next: usize) -> Option<(NodeId, Node
 // ---- edges between nodes that stay, and edges that come
 
 // The pair is noted where it is wanted.
-fn note_if(edges: &mut Edges, u: NodeId, v: NodeId, wanted: bool) -> Result<(), Memory>
+fn note_if(edges: &mut FewEdges, u: NodeId, v: NodeId, wanted: bool) -> Result<(), Memory>
     ensures { OnOk result (edges.new.items ≡ edges.old.items ++ pair_if wanted (u, v)) }
 {
     if wanted {
@@ -125,8 +125,8 @@ fn sort_pair<L: Ledger>(
     graph: &Graph,
     after: &After<'_>,
     pair: (NodeId, NodeId),
-    lost: &mut Edges,
-    added: &mut Edges,
+    lost: &mut FewEdges,
+    added: &mut FewEdges,
     steps: &mut Steps<L>,
 ) -> Result<(), Memory>
     requires graph { after.now.before ≡ graph.now.graph }
@@ -146,8 +146,8 @@ fn sort_step<L: Ledger>(
     graph: &Graph,
     after: &After<'_>,
     named: Option<(NodeId, NodeId)>,
-    lost: &mut Edges,
-    added: &mut Edges,
+    lost: &mut FewEdges,
+    added: &mut FewEdges,
     steps: &mut Steps<L>,
 ) -> Result<(), Memory>
     requires graph { after.now.before ≡ graph.now.graph }
@@ -168,8 +168,8 @@ pub(crate) fn sort_named<L: Ledger>(
     graph: &Graph,
     change: &Change,
     after: &After<'_>,
-    lost: &mut Edges,
-    added: &mut Edges,
+    lost: &mut FewEdges,
+    added: &mut FewEdges,
     steps: &mut Steps<L>,
 ) -> Result<(), Memory>
     requires graph { after.now.before ≡ graph.now.graph }
@@ -190,7 +190,7 @@ pub(crate) fn sort_named<L: Ledger>(
 // ---- edges of nodes that go
 
 // The edges from a node.
-fn lose_children(lost: &mut Edges, u: NodeId, children: &[NodeId]) -> Result<(), Memory>
+fn lose_children(lost: &mut FewEdges, u: NodeId, children: &[NodeId]) -> Result<(), Memory>
     ensures { OnOk result (lost.new.items ≡ lost.old.items ++ edges_from u children.now) }
 {
     for i in 0..children.len() {
@@ -201,7 +201,7 @@ fn lose_children(lost: &mut Edges, u: NodeId, children: &[NodeId]) -> Result<(),
 
 // The edges to a node from nodes that stay.
 fn lose_parents(
-    lost: &mut Edges,
+    lost: &mut FewEdges,
     u: NodeId,
     parents: &[NodeId],
     after: &After<'_>,
@@ -219,7 +219,7 @@ fn lose_node<L: Ledger>(
     graph: &Graph,
     after: &After<'_>,
     u: NodeId,
-    lost: &mut Edges,
+    lost: &mut FewEdges,
     steps: &mut Steps<L>,
 ) -> Result<(), Memory>
     requires graph { after.now.before ≡ graph.now.graph }
@@ -243,7 +243,7 @@ pub(crate) fn lose_nodes<L: Ledger>(
     graph: &Graph,
     after: &After<'_>,
     gone: &[NodeId],
-    lost: &mut Edges,
+    lost: &mut FewEdges,
     steps: &mut Steps<L>,
 ) -> Result<(), Memory>
     requires graph { after.now.before ≡ graph.now.graph }

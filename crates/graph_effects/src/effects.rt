@@ -3,7 +3,7 @@ ghost use Rattle.std.specs.Prelude.{◌≡◌, IfOk};
 ghost use Rattle.graph_update.specs.PendingChanges.{graph_after};
 ghost use Rattle.graph_effects.specs.StepEffects.{ends_of};
 
-use crate::lists::{Edges, Nodes};
+use crate::lists::{FewEdges, FewNodes};
 use crate::nodes::note_ends;
 use bisim_spec::{Side, Sides};
 use graph_update::After;
@@ -15,12 +15,12 @@ use std::marker::Model;
 /// that get another label, each once; and the nodes at which it alters the graph. It is seen as its lists.
 #[derive(Drop)]
 pub struct Effects {
-    pub(crate) came: Nodes,
-    pub(crate) gone: Nodes,
-    pub(crate) relabelled: Nodes,
-    pub(crate) lost: Edges,
-    pub(crate) added: Edges,
-    pub(crate) targets: Nodes,
+    pub(crate) came: FewNodes,
+    pub(crate) gone: FewNodes,
+    pub(crate) relabelled: FewNodes,
+    pub(crate) lost: FewEdges,
+    pub(crate) added: FewEdges,
+    pub(crate) targets: FewNodes,
 }
 
 impl Model for Effects {
@@ -87,10 +87,10 @@ impl Effects {
     /// The nodes of the graph after the change at which what counts is altered: with parents alone the targets, with
     /// children too those at which an edge that comes or goes begins. A node may stand more than once among them. O(t) for
     /// t of them; it takes 4 bytes for each.
-    pub fn ends(&self, alloc: Global, sides: Sides, after: &After<'_>) -> Result<Nodes, Memory>
+    pub fn ends(&self, alloc: Global, sides: Sides, after: &After<'_>) -> Result<FewNodes, Memory>
         ensures { IfOk result (λ ends. ends.items ≡ ends_of sides (graph_after after.now) self.now) }
     {
-        let mut ends = Nodes::from_slice(alloc, &self.targets)?;
+        let mut ends = FewNodes::from_slice(alloc, &self.targets)?;
         match sides {
             Sides::Parents => Ok(ends),
             Sides::Both => {

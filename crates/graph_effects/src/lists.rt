@@ -3,7 +3,7 @@ use px_base::NodeId;
 use smallvec::SmallVec;
 
 /// A list of nodes, up to four without memory of their own.
-pub(crate) type Nodes = SmallVec<NodeId, 4>;
+pub(crate) type FewNodes = SmallVec<NodeId, 4>;
 
 /// A list of edges, up to two without memory of their own.
-pub(crate) type Edges = SmallVec<(NodeId, NodeId), 2>;
+pub(crate) type FewEdges = SmallVec<(NodeId, NodeId), 2>;

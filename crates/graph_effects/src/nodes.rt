@@ -9,7 +9,7 @@ ghost use Rattle.graph_update.specs.PendingChanges.{graph_after};
 ghost use Rattle.graph_effects.specs.Effects.{is_new_node};
 ghost use Rattle.graph_effects.specs.StepEffects.{node_if, comes_below, gone_by, gone_with, end_with, live_ends};
 
-use crate::lists::Nodes;
+use crate::lists::FewNodes;
 use bisim_spec::Side;
 use graph_steps::Step;
 use graph_update::After;
@@ -18,7 +18,7 @@ use px_base::{Memory, NodeId};
 use std::alloc::Global;
 
 /// The number is noted where it is wanted.
-pub(crate) fn note_if(nodes: &mut Nodes, n: NodeId, wanted: bool) -> Result<(), Memory>
+pub(crate) fn note_if(nodes: &mut FewNodes, n: NodeId, wanted: bool) -> Result<(), Memory>
     ensures { OnOk result (nodes.new.items ≡ nodes.old.items ++ node_if wanted n) }
 {
     if wanted {
@@ -28,11 +28,11 @@ pub(crate) fn note_if(nodes: &mut Nodes, n: NodeId, wanted: bool) -> Result<(), 
 }
 
 // The nodes among these numbers.
-fn live_nodes(alloc: Global, first: u32, end: u32, after: &After<'_>) -> Result<Nodes, Memory>
+fn live_nodes(alloc: Global, first: u32, end: u32, after: &After<'_>) -> Result<FewNodes, Memory>
     requires { first ≤ end }
     ensures { IfOk result (λ nodes. Lists (comes_below (graph_after after.now) first end) nodes.items) }
 {
-    let mut nodes = Nodes::new(alloc);
+    let mut nodes = FewNodes::new(alloc);
     for n in first..end {
         note_if(&mut nodes, n, after.is_live(n))?;
     }
@@ -40,7 +40,7 @@ fn live_nodes(alloc: Global, first: u32, end: u32, after: &After<'_>) -> Result<
 }
 
 /// The nodes that come.
-pub(crate) fn came_nodes(alloc: Global, graph: &Graph, after: &After<'_>) -> Result<Nodes, Memory>
+pub(crate) fn came_nodes(alloc: Global, graph: &Graph, after: &After<'_>) -> Result<FewNodes, Memory>
     requires { after.now.before ≡ graph.now.graph }
     ensures { IfOk result (λ nodes. Lists (is_new_node after.now.before (graph_after after.now)) nodes.items) }
 {
@@ -51,7 +51,7 @@ pub(crate) fn came_nodes(alloc: Global, graph: &Graph, after: &After<'_>) -> Res
 }
 
 // The node that a step takes away, where it is one of the graph.
-fn note_gone(nodes: &mut Nodes, graph: &Graph, step: &Step) -> Result<(), Memory>
+fn note_gone(nodes: &mut FewNodes, graph: &Graph, step: &Step) -> Result<(), Memory>
     ensures { OnOk result (nodes.new.items ≡ nodes.old.items ++ gone_by graph.now.graph (step_of step.now)) }
 {
     match step {
@@ -61,10 +61,10 @@ fn note_gone(nodes: &mut Nodes, graph: &Graph, step: &Step) -> Result<(), Memory
 }
 
 // The nodes of the graph that steps take away.
-fn gone_with(alloc: Global, graph: &Graph, steps: &[Step]) -> Result<Nodes, Memory>
+fn gone_with(alloc: Global, graph: &Graph, steps: &[Step]) -> Result<FewNodes, Memory>
     ensures { IfOk result (λ nodes. nodes.items ≡ gone_with graph.now.graph (steps_of steps.now)) }
 {
-    let mut nodes = Nodes::new(alloc);
+    let mut nodes = FewNodes::new(alloc);
     for i in 0..steps.len() {
         note_gone(&mut nodes, graph, &steps[i])?;
     }
@@ -77,7 +77,7 @@ pub(crate) fn gone_nodes(
     graph: &Graph,
     steps: &[Step],
     after: &After<'_>,
-) -> Result<Nodes, Memory>
+) -> Result<FewNodes, Memory>
     requires graph { after.now.before ≡ graph.now.graph }
     requires same { after.now.change ≡ steps_of steps.now }
     ensures { IfOk result (λ nodes. Lists (is_new_node (graph_after after.now) after.now.before) nodes.items) }
@@ -100,7 +100,7 @@ fn end_with(side: Side, edge: (NodeId, NodeId)) -> NodeId
 
 /// Those of the edges that are nodes after the change.
 pub(crate) fn note_ends(
-    nodes: &mut Nodes,
+    nodes: &mut FewNodes,
     side: Side,
     edges: &[(NodeId, NodeId)],
     after: &After<'_>,
@@ -124,11 +124,11 @@ pub(crate) fn target_nodes(
     lost: &[(NodeId, NodeId)],
     added: &[(NodeId, NodeId)],
     after: &After<'_>,
-) -> Result<Nodes, Memory>
+) -> Result<FewNodes, Memory>
     ensures { IfOk result (λ nodes. nodes.items
         ≡ ((came.now ++ relabelled.now) ++ live_ends Parents (graph_after after.now) lost.now) ++ live_ends Parents (graph_after after.now) added.now) }
 {
-    let mut nodes = Nodes::from_slice(alloc, came)?;
+    let mut nodes = FewNodes::from_slice(alloc, came)?;
     nodes.extend_from_slice(relabelled)?;
     note_ends(&mut nodes, Side::Parents, lost, after)?;
     note_ends(&mut nodes, Side::Parents, added, after)?;

@@ -8,7 +8,7 @@ ghost use Rattle.graph_update.specs.PendingChanges.{graph_after};
 ghost use Rattle.graph_effects.specs.Effects.{is_relabelled};
 ghost use Rattle.graph_effects.specs.StepEffects.{relabels, relabelled_last, relabelled_where};
 
-use crate::lists::Nodes;
+use crate::lists::FewNodes;
 use crate::nodes::note_if;
 use crate::places::{step_at, step_count};
 use graph_steps::{Change, Step};
@@ -85,7 +85,7 @@ fn is_last(other: bool, again: bool) -> bool
 
 // Notes the node to which the step gives another label, unless one from the next place on gives it one.
 fn note_last(
-    nodes: &mut Nodes,
+    nodes: &mut FewNodes,
     graph: &Graph,
     after: &After<'_>,
     step: &Step,
@@ -108,7 +108,7 @@ fn note_last(
 
 // Notes the nodes to which steps give other labels, each once.
 fn note_all(
-    nodes: &mut Nodes,
+    nodes: &mut FewNodes,
     graph: &Graph,
     after: &After<'_>,
     change: &Change,
@@ -130,14 +130,14 @@ pub(crate) fn relabelled_nodes(
     graph: &Graph,
     change: &Change,
     after: &After<'_>,
-) -> Result<Nodes, Memory>
+) -> Result<FewNodes, Memory>
     requires graph { after.now.before ≡ graph.now.graph }
     requires same { after.now.change ≡ change.now }
     ensures { IfOk result (λ nodes. Lists (is_relabelled after.now.before (graph_after after.now)) nodes.items) }
 {
     // Called for its contract: the steps can be made.
     let _known = after.created();
-    let mut nodes = Nodes::new(alloc);
+    let mut nodes = FewNodes::new(alloc);
     note_all(&mut nodes, graph, after, change)?;
     Ok(nodes)
 }

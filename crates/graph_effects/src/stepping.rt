@@ -11,7 +11,7 @@ ghost use Rattle.graph_effects.specs.Effects.{AreEffects, ListsPairs, is_new_nod
 
 use crate::edges::{lose_nodes, sort_named};
 use crate::effects::Effects;
-use crate::lists::Edges;
+use crate::lists::FewEdges;
 use crate::nodes::{came_nodes, gone_nodes, target_nodes};
 use crate::relabelling::relabelled_nodes;
 use graph_steps::Change;
@@ -27,8 +27,8 @@ fn find_edges<L: Ledger>(
     change: &Change,
     after: &After<'_>,
     gone: &[NodeId],
-    lost: &mut Edges,
-    added: &mut Edges,
+    lost: &mut FewEdges,
+    added: &mut FewEdges,
     steps: &mut Steps<L>,
 ) -> Result<(), Memory>
     requires graph { after.now.before ≡ graph.now.graph }
@@ -77,8 +77,8 @@ impl Effects {
         let came = came_nodes(alloc, graph, after)?;
         let gone = gone_nodes(alloc, graph, all, after)?;
         let relabelled = relabelled_nodes(alloc, graph, change, after)?;
-        let mut lost = Edges::new(alloc);
-        let mut added = Edges::new(alloc);
+        let mut lost = FewEdges::new(alloc);
+        let mut added = FewEdges::new(alloc);
         find_edges(graph, change, after, &gone, &mut lost, &mut added, steps)?;
         let targets = target_nodes(alloc, &came, &relabelled, &lost, &added, after)?;
         Ok(Effects {

@@ -393,7 +393,7 @@ fn are_ahead(labels: &Labels, change: &Change) -> bool
 
 // ---- labels that are looked for among the steps
 
-// Whether the step brings the label, where it isn't seen yet.
+// Whether the step brings the label, if it isn't seen yet.
 fn brings(step: &Step, label: &Text) -> bool
     ensures some { result ≡ true → (h : Seen) → (made (step_of step.now) h).seen ≡ with_label h.seen label.now }
     ensures none { result ≡ false → (h : Seen) → is_seen (made (step_of step.now) h).seen label.now ≡ is_seen h.seen label.now }

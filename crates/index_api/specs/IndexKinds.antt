@@ -19,7 +19,7 @@ pub record KeptIndexes : Type 0 where
   pub kinds : List Kind
   -- the highest level of the families
   pub k : ℕ
-  -- the blocks of the 1-index in force; nothing where it isn't kept
+  -- the blocks of the 1-index in force; nothing if it isn't kept
   pub one : List (Option ℕ)
 
 -- whether two kinds are the same
@@ -69,11 +69,11 @@ Relates g kept (B level) u v = Both (shape_of g) level u v
 abbrev pub kinds_of : List Meaning → List Kind
 kinds_of boxes = map (λ m. m.kind) boxes
 
--- the index of this kind, none where it isn't kept
+-- the index of this kind, none if it isn't kept
 abbrev pub index_of : List Meaning → Kind → Option Meaning
 index_of boxes k = find (λ m. is_kind k m.kind) boxes
 
--- the view of that level of the index of this kind; none where it isn't kept or isn't computed
+-- the view of that level of the index of this kind; none if it isn't kept or isn't computed
 abbrev pub kept_view : List Meaning → Kind → ℕ → Option View
 kept_view boxes k level = option_and_then (λ m. view_at m.views level) (index_of boxes k)
 

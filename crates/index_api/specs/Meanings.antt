@@ -16,12 +16,12 @@ use Rattle.change_spec.specs.NextOne.{OneStep}
 pub record Meaning : Type 0 where
   -- the kind of the index
   pub kind : Kind
-  -- the view of each level, none where it isn't computed
+  -- the view of each level, none if it isn't computed
   pub views : List (Option View)
   -- the views that a change to come will leave, where one is prepared
   pub staged : Option (List (Option View))
 
--- the blocks of a view; nothing where it isn't computed
+-- the blocks of a view; nothing if it isn't computed
 abbrev pub blocks_in : Option View → List (Option ℕ)
 blocks_in None = []
 blocks_in (Some v) = v.block_of

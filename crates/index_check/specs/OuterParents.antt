@@ -30,12 +30,12 @@ pub record AreInnerLabels (block : List (Option ℕ)) (label : ℕ → Option �
   -- the label of each such node is there
   pub every : (n x p : ℕ) → label n ≡ Some x → IsTrue (edge p n) → Together block p n → at inner n ≡ Some x
 
--- the block where it isn't the own one, else none
+-- the block if it isn't the own one, else none
 abbrev pub outer_block : Option ℕ → Option ℕ → Option ℕ
 outer_block own None = None
 outer_block own (Some b) = if is_this b own then None else Some b
 
--- the block of p, where it isn't that of n
+-- the block of p, if it isn't that of n
 abbrev pub outer_block_at : List (Option ℕ) → ℕ → ℕ → Option ℕ
 outer_block_at block n p = outer_block (at block n) (at block p)
 

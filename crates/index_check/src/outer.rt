@@ -22,14 +22,14 @@ use px_base::Memory;
 use round_refinement::{block_of, write_key};
 use std::alloc::Global;
 
-// The block, where it isn't the own one.
+// The block, if it isn't the own one.
 fn outer_of(block: Option<u32>, own: Option<u32>) -> Option<u32>
     ensures { result ≡ outer_block own block }
 {
     if block == own { None } else { block }
 }
 
-// The block of p, where it isn't that of n.
+// The block of p, if it isn't that of n.
 fn outer_block_of(block: &[Option<u32>], n: u32, p: u32) -> Option<u32>
     ensures { result ≡ outer_block_at block.now n p }
 {

@@ -10,7 +10,7 @@ use Rattle.bisim_spec.specs.Tests.{together}
 use Rattle.bisim_spec.specs.IndexGraphs.{View, ViewFits, shape_of_view}
 use Rattle.bisim_spec.proofs.Bisimilar.{some_of}
 use Rattle.bisim_spec.proofs.StabilityTests.{together_decides}
-use Rattle.branch_query.specs.Queries.{Query, path, branch, IsQueryAnswer, relaxed, searched_form}
+use Rattle.branch_query.specs.Queries.{Query, of_path, of_branch, IsQueryAnswer, relaxed, searched_form}
 use Rattle.branch_query.specs.Candidates.{loose, AreCandidates}
 use Rattle.index_eval.specs.Extents.{AreOfBlocks}
 use Rattle.index_eval.proofs.MappedWalks.{ends_in_node}
@@ -20,17 +20,17 @@ use Rattle.index_eval.proofs.Mapped.{block_or_past, block_answers, node_answers,
 
 -- an answer is a node
 pub answer_node : (s : Shape) (q : Query) (v : ℕ) → IsQueryAnswer s q v → IsNode s v
-answer_node s (path e) v (w, m, u, h) = ends_in_node s u w v h
-answer_node s (branch q) v h = branch_node s q v h
+answer_node s (of_path e) v (w, m, u, h) = ends_in_node s u w v h
+answer_node s (of_branch q) v h = branch_node s q v h
 
 module _ (g : Graph) (is_graph : IsGraph g) (v : View) (fits : ViewFits g v) (r : ℕ → ℕ → Bool) (agrees : Agrees (shape_of g) v.block_of (λ x y. IsTrue (r x y))) where
   block_answers_query : (q : Query) (n : ℕ) → IsQueryAnswer (loose (shape_of g) r) q n → IsQueryAnswer (shape_of_view g.seen v) q (block_or_past v n)
-  block_answers_query (path e) n h = block_answers g is_graph v fits r agrees e n h
-  block_answers_query (branch q) n h = block_branches g is_graph v fits r agrees q n h
+  block_answers_query (of_path e) n h = block_answers g is_graph v fits r agrees e n h
+  block_answers_query (of_branch q) n h = block_branches g is_graph v fits r agrees q n h
 
   node_answers_query : (q : Query) (n : ℕ) → IsQueryAnswer (shape_of_view g.seen v) q (block_or_past v n) → IsQueryAnswer (loose (shape_of g) r) q n
-  node_answers_query (path e) n h = node_answers g is_graph v fits r agrees e n h
-  node_answers_query (branch q) n h = node_branches g is_graph v fits r agrees q n h
+  node_answers_query (of_path e) n h = node_answers g is_graph v fits r agrees e n h
+  node_answers_query (of_branch q) n h = node_branches g is_graph v fits r agrees q n h
 
   block_is : (n b : ℕ) → at v.block_of n ≡ Some b → block_or_past v n ≡ b
   block_is n b e = refl_of n b e
@@ -61,9 +61,9 @@ agrees_together s block p = record {
 -- where each node is related to itself, each answer is one of the relaxed form over the loose graph
 relaxed_kept : (s : Shape) → IsShape s → (r : ℕ → ℕ → Bool) → ((n : ℕ) → IsNode s n → IsTrue (r n n)) → (q : Query) (n : ℕ) → IsQueryAnswer s q n
     → IsQueryAnswer (loose s r) (relaxed q) n
-relaxed_kept s shape r self (path e) n h =
+relaxed_kept s shape r self (of_path e) n h =
     path_kept s (loose s r) shape (λ x y. IsTrue (r x y)) (loose_is s shape r (λ x y. IsTrue (r x y)) (λ x y t. t) (λ x y nx ny t. t)) self e n h
-relaxed_kept s shape r self (branch q) n h =
+relaxed_kept s shape r self (of_branch q) n h =
     relaxed_branch s (loose s r) shape (λ x y. IsTrue (r x y)) (loose_is s shape r (λ x y. IsTrue (r x y)) (λ x y t. t) (λ x y nx ny t. t)) self q n h
 
 -- so each answer of the graph is among the candidates of the relaxed form

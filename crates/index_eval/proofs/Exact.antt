@@ -23,7 +23,7 @@ use Rattle.index_api.specs.declared.kinds.Via.TheVariants.{Data, A, One, Fb, B}
 use Rattle.branch_spec.specs.Trees.{Branch}
 use Rattle.branch_spec.specs.Depths.{depth, IsUpTo}
 use Rattle.branch_spec.proofs.AnswersAgree.{Follows}
-use Rattle.branch_query.specs.Queries.{Query, path, branch, IsQueryAnswer, AreQueryAnswers}
+use Rattle.branch_query.specs.Queries.{Query, of_path, of_branch, IsQueryAnswer, AreQueryAnswers}
 use Rattle.branch_query.specs.Candidates.{loose, AreCandidates}
 use Rattle.index_eval.specs.Exactness.{IsExact, HasLongestWithin, FitsVia}
 use Rattle.index_eval.specs.Extents.{AreOfBlocks}
@@ -71,57 +71,57 @@ module _ (g : Graph) (is_graph : IsGraph g) (v : View) (fits : ViewFits g v) (no
 
   -- through a partition by a level, where no word is longer than the level allows
   level_exact : (which : Sides) (i : ℕ) → Agrees s v.block_of (AtLevel which s i) → (e : Expr) → HasLongestWithin e (i + 1)
-      → AreOfBlocks v.block_of (IsQueryAnswer (shape_of_view g.seen v) (path e)) nodes → AreQueryAnswers s (path e) nodes
+      → AreOfBlocks v.block_of (IsQueryAnswer (shape_of_view g.seen v) (of_path e)) nodes → AreQueryAnswers s (of_path e) nodes
   level_exact which i a e within h =
       let shape = is_shape g is_graph in
       let is_loose = blocks_loose s shape v.block_of (AtLevel which s i) a in
-      query_answers s (together v.block_of) (path e) nodes
+      query_answers s (together v.block_of) (of_path e) nodes
       (path_kept s (loose s (together v.block_of)) shape (AtLevel which s i) is_loose ((level_family which s shape).self i) e)
-      (level_back s (loose s (together v.block_of)) shape i (AtLevel which s i) is_loose (by_parents which s i) e within) (candidates_of a.partition (path e) h)
+      (level_back s (loose s (together v.block_of)) shape i (AtLevel which s i) is_loose (by_parents which s i) e within) (candidates_of a.partition (of_path e) h)
 
   -- a branching query through one by parents and children, where it looks no further than the level allows
   shallow_exact : (i : ℕ) → Agrees s v.block_of (Both s i) → (q : Branch) → IsUpTo (depth q) i
-      → AreOfBlocks v.block_of (IsQueryAnswer (shape_of_view g.seen v) (branch q)) nodes → AreQueryAnswers s (branch q) nodes
+      → AreOfBlocks v.block_of (IsQueryAnswer (shape_of_view g.seen v) (of_branch q)) nodes → AreQueryAnswers s (of_branch q) nodes
   shallow_exact i a q within h =
       let shape = is_shape g is_graph in
       let is_loose = blocks_loose s shape v.block_of (Both s i) a in
-      query_answers s (together v.block_of) (branch q) nodes (shallow_there s (loose s (together v.block_of)) shape i is_loose q within)
-      (shallow_back s (loose s (together v.block_of)) shape i is_loose q within) (candidates_of a.partition (branch q) h)
+      query_answers s (together v.block_of) (of_branch q) nodes (shallow_there s (loose s (together v.block_of)) shape i is_loose q within)
+      (shallow_back s (loose s (together v.block_of)) shape i is_loose q within) (candidates_of a.partition (of_branch q) h)
 
   -- through a stable partition
-  stable_exact : Stable s v.block_of → (e : Expr) → AreOfBlocks v.block_of (IsQueryAnswer (shape_of_view g.seen v) (path e)) nodes → AreQueryAnswers s (path e) nodes
+  stable_exact : Stable s v.block_of → (e : Expr) → AreOfBlocks v.block_of (IsQueryAnswer (shape_of_view g.seen v) (of_path e)) nodes → AreQueryAnswers s (of_path e) nodes
   stable_exact st e h =
       let shape = is_shape g is_graph in
       let block = v.block_of in
       let self = same_block s block st.partition in
       let is_loose = blocks_loose s shape block (Together block) (agrees_self s block st.partition) in
-      query_answers s (together block) (path e) nodes (path_kept s (loose s (together block)) shape (Together block) is_loose self e)
+      query_answers s (together block) (of_path e) nodes (path_kept s (loose s (together block)) shape (Together block) is_loose self e)
       (bisimilar_back s (loose s (together block)) shape (Together block) is_loose (stable_bisimulation s block st) (together_sym block) (together_trans block) self e)
-      (candidates_of st.partition (path e) h)
+      (candidates_of st.partition (of_path e) h)
 
   -- a branching query through one that is stable both ways
-  both_exact : StableBoth s v.block_of → (q : Branch) → AreOfBlocks v.block_of (IsQueryAnswer (shape_of_view g.seen v) (branch q)) nodes → AreQueryAnswers s (branch q) nodes
+  both_exact : StableBoth s v.block_of → (q : Branch) → AreOfBlocks v.block_of (IsQueryAnswer (shape_of_view g.seen v) (of_branch q)) nodes → AreQueryAnswers s (of_branch q) nodes
   both_exact st q h =
       let shape = is_shape g is_graph in
       let block = v.block_of in
       let self = same_block s block st.stable.partition in
       let is_loose = blocks_loose s shape block (Together block) (agrees_self s block st.stable.partition) in
       let same = stable_follows s block st in
-      query_answers s (together block) (branch q) nodes
+      query_answers s (together block) (of_branch q) nodes
       (branch_there s (loose s (together block)) shape (Together block) is_loose self same (together_sym block) (together_trans block) q)
       (branch_back s (loose s (together block)) shape (Together block) is_loose self same (together_sym block) (together_trans block) q)
-      (candidates_of st.stable.partition (branch q) h)
+      (candidates_of st.stable.partition (of_branch q) h)
 
 -- where the index is exact for the query, and the view is that of the index
 pub exact_answers : (g : Graph) → IsGraph g → (v : View) (via : Via) → FitsVia via g v → (q : Query) → IsExact via q → (nodes : List ℕ)
     → AreOfBlocks v.block_of (IsQueryAnswer (shape_of_view g.seen v) q) nodes → AreQueryAnswers (shape_of g) q nodes
 exact_answers g is_graph v Data f q x nodes h = absurd x
-exact_answers g is_graph v (A i) f (path e) x nodes h = level_exact g is_graph v f.view nodes sides.Parents i f.agrees e x h
-exact_answers g is_graph v (A i) f (branch q) x nodes h = absurd x
-exact_answers g is_graph v One f (path e) x nodes h = stable_exact g is_graph v f.view nodes f.index.stable e h
-exact_answers g is_graph v One f (branch q) x nodes h = absurd x
-exact_answers g is_graph v Fb f (path e) x nodes h =
+exact_answers g is_graph v (A i) f (of_path e) x nodes h = level_exact g is_graph v f.view nodes sides.Parents i f.agrees e x h
+exact_answers g is_graph v (A i) f (of_branch q) x nodes h = absurd x
+exact_answers g is_graph v One f (of_path e) x nodes h = stable_exact g is_graph v f.view nodes f.index.stable e h
+exact_answers g is_graph v One f (of_branch q) x nodes h = absurd x
+exact_answers g is_graph v Fb f (of_path e) x nodes h =
     stable_exact g is_graph v f.view nodes (fb_stable (shape_of g) v.block_of (is_shape g is_graph) f.agrees).stable e h
-exact_answers g is_graph v (B i) f (path e) x nodes h = level_exact g is_graph v f.view nodes sides.Both i f.agrees e x h
-exact_answers g is_graph v (B i) f (branch q) x nodes h = shallow_exact g is_graph v f.view nodes i f.agrees q x h
-exact_answers g is_graph v Fb f (branch q) x nodes h = both_exact g is_graph v f.view nodes (fb_stable (shape_of g) v.block_of (is_shape g is_graph) f.agrees) q h
+exact_answers g is_graph v (B i) f (of_path e) x nodes h = level_exact g is_graph v f.view nodes sides.Both i f.agrees e x h
+exact_answers g is_graph v (B i) f (of_branch q) x nodes h = shallow_exact g is_graph v f.view nodes i f.agrees q x h
+exact_answers g is_graph v Fb f (of_branch q) x nodes h = both_exact g is_graph v f.view nodes (fb_stable (shape_of g) v.block_of (is_shape g is_graph) f.agrees) q h

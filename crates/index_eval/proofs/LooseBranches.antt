@@ -2,7 +2,7 @@
 use Rattle.std.proofs.Common.{◌≡◌, ℕ, ap, sym, ◌∙◌, subst, IsTrue}
 use Rattle.std.specs.Prelude.{is_some}
 use Rattle.graph_spec.specs.Shapes.{Shape, IsNode, IsShape}
-use Rattle.branch_spec.specs.Trees.{Test, label, any, Step, step, Chain, end, go, Branch, branch}
+use Rattle.branch_spec.specs.Trees.{Test, label, any, Step, step, Chain, no_step, go, Branch, first_step}
 use Rattle.branch_spec.specs.BranchAnswers.{Passes, Meets, Ends, IsBranchAnswer}
 use Rattle.branch_spec.specs.Relaxed.{relax}
 use Rattle.branch_spec.proofs.RelaxedAnswers.{relaxed}
@@ -17,12 +17,12 @@ meeting_node : (s : Shape) (p : Step) (v : ℕ) → Meets s p v → IsNode s v
 meeting_node s (step t ps) v h = passing_node s t v h.0
 
 ending_node : (s : Shape) (ch : Chain) (u v : ℕ) → IsNode s u → Ends s ch u v → IsNode s v
-ending_node s end u v n h = subst (IsNode s) h n
+ending_node s no_step u v n h = subst (IsNode s) h n
 ending_node s (go a p ch) u v n h = ending_node s ch h.0 v (meeting_node s p h.0 h.2) h.3
 
 -- an answer is a node
 pub branch_node : (s : Shape) (q : Branch) (v : ℕ) → IsBranchAnswer s q v → IsNode s v
-branch_node s (branch p ch) v h = ending_node s ch h.0 v (meeting_node s p h.0 h.1) h.2
+branch_node s (first_step p ch) v h = ending_node s ch h.0 v (meeting_node s p h.0 h.1) h.2
 
 module _ (s t : Shape) (shape : IsShape s) (R : ℕ → ℕ → Type 0) (is_loose : IsLoose s R t) (self : (n : ℕ) → IsNode s n → R n n) where
   edges_kept : (u v : ℕ) → IsTrue (s.edge u v) → IsTrue (t.edge u v)

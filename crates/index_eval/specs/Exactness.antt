@@ -13,7 +13,7 @@ use Rattle.bisim_spec.specs.Fits.{FitsAt}
 use Rattle.index_api.specs.declared.kinds.Via.{Via}
 use Rattle.branch_spec.specs.Depths.{depth, IsUpTo}
 use Rattle.index_api.specs.declared.kinds.Via.TheVariants.{Data, A, One, Fb, B}
-use Rattle.branch_query.specs.Queries.{Query, path, branch}
+use Rattle.branch_query.specs.Queries.{Query, of_path, of_branch}
 
 -- the expression has a longest matching word, of at most so many labels
 abbrev pub HasLongestWithin : Expr → ℕ → Type 0
@@ -25,13 +25,13 @@ HasLongestWithin e most = (n : ℕ) × IsLongest (Matches e) (Some n) × (n ≤ 
 -- children. The graph itself is no index.
 abbrev pub IsExact : Via → Query → Type 0
 IsExact Data q = ⊥
-IsExact (A i) (path e) = HasLongestWithin e (i + 1)
-IsExact (A i) (branch q) = ⊥
-IsExact One (path e) = Unit {0}
-IsExact One (branch q) = ⊥
+IsExact (A i) (of_path e) = HasLongestWithin e (i + 1)
+IsExact (A i) (of_branch q) = ⊥
+IsExact One (of_path e) = Unit {0}
+IsExact One (of_branch q) = ⊥
 IsExact Fb q = Unit {0}
-IsExact (B i) (path e) = HasLongestWithin e (i + 1)
-IsExact (B i) (branch q) = IsUpTo (depth q) i
+IsExact (B i) (of_path e) = HasLongestWithin e (i + 1)
+IsExact (B i) (of_branch q) = IsUpTo (depth q) i
 
 -- the view is what that of the index has to be for the graph
 abbrev pub FitsVia : Via → Graph → View → Type 0

@@ -122,7 +122,7 @@ impl Draft {
         is_done(self.due, self.views.len()) && is_end(self.k, self.views.last_via())
     }
 
-    // The node with that number, and none where it isn't live.
+    // The node with that number, and none if it isn't live.
     #[tactic(auto, using(crate::proofs::ReadNodeLaws::live_below))]
     fn node_at(&self, n: u64) -> Option<u32>
         ensures found { IfSome result (λ u. (u ≡ n) × IsTrue (is_live_in self.now.allocated n)) }

@@ -124,7 +124,7 @@ impl ReadLabels {
         }
     }
 
-    // The number of the label that the word spells, where it isn't at hand.
+    // The number of the label that the word spells, if it isn't at hand.
     fn read(&mut self, alloc: Global, word: &[u8], most: u32) -> Result<u32, Stop>
         ensures ok { IfOk result (IsNumbered word.now most self.old self.new) }
         ensures over { IsErrOf result Stop.Limit → IsOneTooMany word.now most self.old }

@@ -86,7 +86,7 @@ impl ReadNodes {
         label_at(&self.numbers, n).is_some()
     }
 
-    /// The number of the node's label, by first use, and `None` exactly where it isn't live. O(1), no memory.
+    /// The number of the node's label, by first use, and `None` exactly if it isn't live. O(1), no memory.
     pub(crate) fn label(&self, n: u32) -> Option<u32>
         ensures { result ≡ label_number (graph_of self.now []) n }
     {

@@ -120,7 +120,7 @@ pub(crate) fn labels_of(alloc: Global, blocks: &[Block]) -> Result<Vec<u32>, Mem
     Ok(labels)
 }
 
-// Puts a label behind the others, where it isn't there yet.
+// Puts a label behind the others, if it isn't there yet.
 fn push_label(labels: &mut Vec<u32>, label: u32) -> Result<(), Memory>
     ensures { OnOk result (labels.new.items ≡ with_label labels.old.items label) }
 {

@@ -137,7 +137,7 @@ fn push_box(
     Ok(())
 }
 
-// The place of a label among those that are used; 0 where it isn't there.
+// The place of a label among those that are used; 0 if it isn't there.
 fn place_of(used: &[u32], l: u32) -> usize
     ensures { result ≡ unwrap_or (position (nat_eq l) used.now) 0 }
 {

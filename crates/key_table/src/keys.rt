@@ -78,7 +78,7 @@ impl KeyTable {
         &self.arena[span.from as usize..span.to as usize]
     }
 
-    /// The number of a key, and `None` exactly where it isn't in the table. Expected O(k) for a key of k
+    /// The number of a key, and `None` exactly if it isn't in the table. Expected O(k) for a key of k
     /// numbers, no memory.
     pub fn find(&self, key: &[u32]) -> Option<u32>
         ensures found { IfSome result (λ i. slice_get self.now i ≡ Some key.now) }

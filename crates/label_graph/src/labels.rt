@@ -122,7 +122,7 @@ impl Labels {
         Some(l)
     }
 
-    /// Reserves capacity for a label, and gives the number that it has or will have: where it isn't an entry yet, it
+    /// Reserves capacity for a label, and gives the number that it has or will have: if it isn't an entry yet, it
     /// becomes the last one.
     pub(crate) fn reserve(&mut self, alloc: Global, text: &Text) -> Result<u32, Memory>
         ensures ahead { OnOk result (self.new ≡ with_ahead self.old text.now) }
@@ -145,7 +145,7 @@ impl Labels {
         }
     }
 
-    /// Makes a label of the entry, and gives the number that it has then. Where it isn't a label yet, it has changed places
+    /// Makes a label of the entry, and gives the number that it has then. If it isn't a label yet, it has changed places
     /// with the first text ahead.
     pub(crate) fn show(&mut self, l: u32) -> u32
         requires few { length self.old.texts ≤ l → length self.old.texts < 2 ^ 30 }

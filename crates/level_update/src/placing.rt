@@ -19,7 +19,7 @@ use px_base::{Memory, NodeId, Steps};
 use quotient_moves::NodeNeighbours;
 use std::sync::ledger::Ledger;
 
-/// Moves a node to a block of a level, where it isn't there yet. Its parents and its children are read once.
+/// Moves a node to a block of a level, if it isn't there yet. Its parents and its children are read once.
 pub(crate) fn move_to<L: Ledger>(
     family: &AkFamily,
     draft: &mut AkDraft,

@@ -4,7 +4,7 @@ use Rattle.change_spec.specs.Steps.{Step}
 use Rattle.pathindex_session.specs.declared.opening.Indexes.{Indexes}
 use Rattle.pathindex_session.specs.Sessions.{SessionOf}
 use Rattle.pathindex_calls.specs.declared.replies.Reply.{Reply}
-use Rattle.pathindex_calls.specs.declared.requests.Command.{Command}
+use Rattle.pathindex_calls.specs.declared.requests.Call.{Call}
 use Rattle.pathindex_calls.specs.declared.requests.Request.{Request}
 use Rattle.pathindex_calls.specs.declared.requests.Request.TheVariants.{Open, Ask}
 use Rattle.pathindex_calls.specs.Requests.{LevelsAreFew}
@@ -12,20 +12,20 @@ use Rattle.pathindex_calls.specs.Replies.{misused}
 use Rattle.pathindex_calls.specs.Questions.{Checks}
 use Rattle.pathindex_calls.specs.Calls.{ObeysCall, Opens, Kept, AsksSession, Calls, ChecksSession}
 
-pub asked : (o : Option SessionOf) (s t : SessionOf) (command : Command) (text : List ℕ) (g h : Option (List Step)) (reply : Reply) → o ≡ Some s → ObeysCall command text s g t h reply
-    → AsksSession o command text g (record { session = Some t; group = h }) reply
-asked o s t command text g h reply is obeys = subst (λ p. AsksSession p command text g (record { session = Some t; group = h }) reply) (sym is) (t, refl, obeys)
+pub asked : (o : Option SessionOf) (s t : SessionOf) (call : Call) (text : List ℕ) (g h : Option (List Step)) (reply : Reply) → o ≡ Some s → ObeysCall call text s g t h reply
+    → AsksSession o call text g (record { session = Some t; group = h }) reply
+asked o s t call text g h reply is obeys = subst (λ p. AsksSession p call text g (record { session = Some t; group = h }) reply) (sym is) (t, refl, obeys)
 
-pub not_asked : (o : Option SessionOf) (command : Command) (text : List ℕ) (g : Option (List Step)) → o ≡ None → AsksSession o command text g (record { session = o; group = g }) misused
-not_asked o command text g is = subst (λ p. AsksSession p command text g (record { session = p; group = g }) misused) (sym is) (refl, refl)
+pub not_asked : (o : Option SessionOf) (call : Call) (text : List ℕ) (g : Option (List Step)) → o ≡ None → AsksSession o call text g (record { session = o; group = g }) misused
+not_asked o call text g is = subst (λ p. AsksSession p call text g (record { session = p; group = g }) misused) (sym is) (refl, refl)
 
 pub called_open : (r : Option Request) (kept : Indexes) (text : List ℕ) (j : Kept) (o : Option SessionOf) (reply : Reply) → r ≡ Some (Open kept) → Opens kept text o reply
     → Calls r text j (record { session = o; group = None }) reply
 called_open r kept text j o reply is opens = subst (λ q. Calls q text j (record { session = o; group = None }) reply) (sym is) (refl, opens)
 
-pub called_ask : (r : Option Request) (command : Command) (text : List ℕ) (o : Option SessionOf) (g : Option (List Step)) (k : Kept) (reply : Reply) → r ≡ Some (Ask command)
-    → AsksSession o command text g k reply → Calls r text (record { session = o; group = g }) k reply
-called_ask r command text o g k reply is asks = subst (λ q. Calls q text (record { session = o; group = g }) k reply) (sym is) asks
+pub called_ask : (r : Option Request) (call : Call) (text : List ℕ) (o : Option SessionOf) (g : Option (List Step)) (k : Kept) (reply : Reply) → r ≡ Some (Ask call)
+    → AsksSession o call text g k reply → Calls r text (record { session = o; group = g }) k reply
+called_ask r call text o g k reply is asks = subst (λ q. Calls q text (record { session = o; group = g }) k reply) (sym is) asks
 
 pub called_nothing : (r : Option Request) (text : List ℕ) (k : Kept) → r ≡ None → Calls r text k k misused
 called_nothing r text k is = subst (λ q. Calls q text k k misused) (sym is) (refl, refl)

@@ -10,8 +10,8 @@ use Rattle.pathindex_session.specs.Openings.{OpensText, TellsLine}
 use Rattle.pathindex_session.specs.TextAnswers.{SpellsPathQuery, SpellsBranchQuery}
 use Rattle.pathindex_calls.specs.declared.held.Held.{Held}
 use Rattle.pathindex_calls.specs.declared.replies.Reply.{Reply}
-use Rattle.pathindex_calls.specs.declared.requests.Command.{Command}
-use Rattle.pathindex_calls.specs.declared.requests.Command.TheVariants.{Node, Link, Unlink, Drop, Relabel, Begin, End, Cancel, Insert, Delete, Path, Branch, Why, Extents, Sizes, Save, Forget}
+use Rattle.pathindex_calls.specs.declared.requests.Call.{Call}
+use Rattle.pathindex_calls.specs.declared.requests.Call.TheVariants.{Node, Link, Unlink, Drop, Relabel, Begin, End, Cancel, Insert, Delete, Path, Branch, Why, Extents, Sizes, Save, Forget}
 use Rattle.pathindex_calls.specs.declared.requests.Request.{Request}
 use Rattle.pathindex_calls.specs.declared.requests.Request.TheVariants.{Open, Ask}
 use Rattle.pathindex_calls.specs.Requests.{request_at}
@@ -19,8 +19,8 @@ use Rattle.pathindex_calls.specs.Replies.{said, of_open, misused}
 use Rattle.pathindex_calls.specs.Changes.{Inserts, Deletes, ReadsTriple, Steps, Labels, Begins, Ends, Cancels}
 use Rattle.pathindex_calls.specs.Questions.{Asks, Explains, Checks, Lists, Measures, Saves, Forgets}
 
--- A command was carried out, with this text, on a session and the group of steps that is begun.
-abbrev pub ObeysCall : Command → List ℕ → SessionOf → Option (List Step) → SessionOf → Option (List Step) → Reply → Type 0
+-- A call was carried out, with this text, on a session and the group of steps that is begun.
+abbrev pub ObeysCall : Call → List ℕ → SessionOf → Option (List Step) → SessionOf → Option (List Step) → Reply → Type 0
 ObeysCall Node text s g t h reply = Labels (λ label. node label) text s g t h reply
 ObeysCall (Link u v) text s g t h reply = Steps (link u v) s g t h reply
 ObeysCall (Unlink u v) text s g t h reply = Steps (unlink u v) s g t h reply
@@ -57,15 +57,15 @@ abbrev pub kept_by : Held → Kept
 kept_by h = record { session = h.session; group = h.group }
 
 -- Something was asked of the session, if one is open.
-abbrev pub AsksSession : Option SessionOf → Command → List ℕ → Option (List Step) → Kept → Reply → Type 0
-AsksSession None command text g k reply = (k ≡ record { session = None; group = g }) × (reply ≡ misused)
-AsksSession (Some s) command text g k reply = (t : SessionOf) × (k.session ≡ Some t) × ObeysCall command text s g t k.group reply
+abbrev pub AsksSession : Option SessionOf → Call → List ℕ → Option (List Step) → Kept → Reply → Type 0
+AsksSession None call text g k reply = (k ≡ record { session = None; group = g }) × (reply ≡ misused)
+AsksSession (Some s) call text g k reply = (t : SessionOf) × (k.session ≡ Some t) × ObeysCall call text s g t k.group reply
 
 -- A call that asks for nothing changes nothing.
 abbrev pub Calls : Option Request → List ℕ → Kept → Kept → Reply → Type 0
 Calls None text j k reply = (k ≡ j) × (reply ≡ misused)
 Calls (Some (Open kept)) text j k reply = (k.group ≡ None) × Opens kept text k.session reply
-Calls (Some (Ask command)) text j k reply = AsksSession j.session command text j.group k reply
+Calls (Some (Ask call)) text j k reply = AsksSession j.session call text j.group k reply
 
 -- What a call does, by its number, the two numbers and the text that come with it; and it says the code of its reply.
 pub record IsCalled (call a b : ℕ) (text : List ℕ) (h i : Held) (code : ℕ) : Type 0 where

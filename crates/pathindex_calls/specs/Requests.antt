@@ -5,8 +5,8 @@ use Rattle.bisim_spec.specs.declared.kind.Kind.TheVariants as kind
 use Rattle.index_api.specs.declared.kinds.Via.{Via}
 use Rattle.index_api.specs.declared.kinds.Via.TheVariants as via
 use Rattle.pathindex_session.specs.declared.opening.Indexes.{Indexes}
-use Rattle.pathindex_calls.specs.declared.requests.Command.{Command}
-use Rattle.pathindex_calls.specs.declared.requests.Command.TheVariants.{Node, Link, Unlink, Drop, Relabel, Begin, End, Cancel, Insert, Delete, Path, Branch, Why, Extents, Sizes, Save, Forget}
+use Rattle.pathindex_calls.specs.declared.requests.Call.{Call}
+use Rattle.pathindex_calls.specs.declared.requests.Call.TheVariants.{Node, Link, Unlink, Drop, Relabel, Begin, End, Cancel, Insert, Delete, Path, Branch, Why, Extents, Sizes, Save, Forget}
 use Rattle.pathindex_calls.specs.declared.requests.Request.{Request}
 use Rattle.pathindex_calls.specs.declared.requests.Request.TheVariants.{Open, Ask}
 
@@ -42,15 +42,15 @@ indexes_at k flags =
 abbrev pub LevelsAreFew : Option Request → Type 0
 LevelsAreFew None = ⊤
 LevelsAreFew (Some (Open kept)) = kept.k ≤ 8
-LevelsAreFew (Some (Ask command)) = ⊤
+LevelsAreFew (Some (Ask call)) = ⊤
 
 abbrev opens : Option Indexes → Option Request
 opens None = None
 opens (Some kept) = Some (Open kept)
 
-abbrev asks_via : (Via → Command) → Option Via → Option Request
-asks_via command None = None
-asks_via command (Some v) = Some (Ask (command v))
+abbrev asks_via : (Via → Call) → Option Via → Option Request
+asks_via call None = None
+asks_via call (Some v) = Some (Ask (call v))
 
 abbrev forgets : Option Kind → Option Request
 forgets None = None

@@ -3,11 +3,11 @@ ghost use Rattle.std.specs.Prelude.{◌≡◌, ◌≤◌, None};
 ghost use Rattle.pathindex_calls.specs.Requests.{LevelsAreFew};
 ghost use Rattle.pathindex_calls.specs.Calls.{IsCalled, IsChecked, IsReported, IsEmpty, CopiesFound, Opens, AsksSession, Calls, ChecksSession, nodes_in, edges_in, next_in, found_nodes, found_walk, found_text};
 
-use crate::commands::obey;
+use crate::calls::obey;
 use crate::copying::copy_part;
 use crate::questions::check;
 use crate::replies::{MISUSE, Reply, of_open, said};
-use crate::requests::{Command, Request, request_at};
+use crate::requests::{Call, Request, request_at};
 use graph_update::Change;
 use pathindex_session::{Indexes, Session};
 use px_base::NodeId;
@@ -37,18 +37,18 @@ fn open_session(alloc: Global, session: &mut Option<Session>, kept: Indexes, tex
     }
 }
 
-// Carries out a command on the session, if one is open.
+// Carries out a call on the session, if one is open.
 fn ask_session(
     alloc: Global,
     session: &mut Option<Session>,
     group: &mut Option<Change>,
-    command: Command,
+    call: Call,
     text: &[u8],
 ) -> Reply
-    ensures { AsksSession session.old command text.now group.old (record { session = session.new; group = group.new }) result }
+    ensures { AsksSession session.old call text.now group.old (record { session = session.new; group = group.new }) result }
 {
     match session {
-        Some(session) => obey(alloc, session, group, command, text),
+        Some(session) => obey(alloc, session, group, call, text),
         None => said(MISUSE),
     }
 }
@@ -70,7 +70,7 @@ fn carry_out(
             *session = None;
             open_session(alloc, session, kept, text)
         }
-        Some(Request::Ask(command)) => ask_session(alloc, session, group, command, text),
+        Some(Request::Ask(call)) => ask_session(alloc, session, group, call, text),
         None => said(MISUSE),
     }
 }
@@ -155,7 +155,7 @@ impl Held {
     }
 
     /// Carries out a check, and says its code: the reply's count is 1 where the numbers are the nodes of a walk that shows that
-    /// the node answers the path expression that the text spells, and 0 where they aren't. The cost is that of `Session::check`.
+    /// the node answers the path expression that the text spells, and 0 if they aren't. The cost is that of `Session::check`.
     pub fn check(&mut self, n: NodeId, walk: &[NodeId], text: &[u8]) -> u32
         ensures { IsChecked n walk.now text.now self.old self.new result }
     {

@@ -5,7 +5,7 @@
 #![tactic(auto)]
 
 mod changes;
-mod commands;
+mod calls;
 mod copying;
 mod held;
 mod questions;

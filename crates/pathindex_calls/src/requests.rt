@@ -8,7 +8,7 @@ use px_base::NodeId;
 
 /// What is asked of a session that is open. A text comes with some of them.
 #[derive(Clone, Copy, Debug, PartialEq, Eq, Drop)]
-pub(crate) enum Command {
+pub(crate) enum Call {
     /// One more node, whose label the text spells.
     Node,
     /// An edge from the first node to the second.
@@ -51,7 +51,7 @@ pub(crate) enum Request {
     /// A session of the graph whose triples the text has.
     Open(Indexes),
     /// Something of the session that is open.
-    Ask(Command),
+    Ask(Call),
 }
 
 // Through what a number asks: below 16 the A(k)-index of that level, and then, from 16 on, the bounded forward and backward one.
@@ -115,7 +115,7 @@ fn path_at(n: u32) -> Option<Request>
     ensures level { LevelsAreFew result }
 {
     match via_at(n) {
-        Some(via) => Some(Request::Ask(Command::Path(via))),
+        Some(via) => Some(Request::Ask(Call::Path(via))),
         None => None,
     }
 }
@@ -125,7 +125,7 @@ fn branch_at(n: u32) -> Option<Request>
     ensures level { LevelsAreFew result }
 {
     match via_at(n) {
-        Some(via) => Some(Request::Ask(Command::Branch(via))),
+        Some(via) => Some(Request::Ask(Call::Branch(via))),
         None => None,
     }
 }
@@ -135,7 +135,7 @@ fn extents_at(n: u32) -> Option<Request>
     ensures level { LevelsAreFew result }
 {
     match via_at(n) {
-        Some(via) => Some(Request::Ask(Command::Extents(via))),
+        Some(via) => Some(Request::Ask(Call::Extents(via))),
         None => None,
     }
 }
@@ -145,7 +145,7 @@ fn forget_at(n: u32) -> Option<Request>
     ensures level { LevelsAreFew result }
 {
     match kind_at(n) {
-        Some(kind) => Some(Request::Ask(Command::Forget(kind))),
+        Some(kind) => Some(Request::Ask(Call::Forget(kind))),
         None => None,
     }
 }
@@ -156,16 +156,16 @@ fn change_at(call: u32, a: u32, b: u32) -> Option<Request>
     ensures level { LevelsAreFew result }
 {
     match call {
-        1 => Some(Request::Ask(Command::Node)),
-        2 => Some(Request::Ask(Command::Link(a, b))),
-        3 => Some(Request::Ask(Command::Unlink(a, b))),
-        4 => Some(Request::Ask(Command::Drop(a))),
-        5 => Some(Request::Ask(Command::Relabel(a))),
-        6 => Some(Request::Ask(Command::Begin)),
-        7 => Some(Request::Ask(Command::End)),
-        8 => Some(Request::Ask(Command::Cancel)),
-        9 => Some(Request::Ask(Command::Insert)),
-        10 => Some(Request::Ask(Command::Delete)),
+        1 => Some(Request::Ask(Call::Node)),
+        2 => Some(Request::Ask(Call::Link(a, b))),
+        3 => Some(Request::Ask(Call::Unlink(a, b))),
+        4 => Some(Request::Ask(Call::Drop(a))),
+        5 => Some(Request::Ask(Call::Relabel(a))),
+        6 => Some(Request::Ask(Call::Begin)),
+        7 => Some(Request::Ask(Call::End)),
+        8 => Some(Request::Ask(Call::Cancel)),
+        9 => Some(Request::Ask(Call::Insert)),
+        10 => Some(Request::Ask(Call::Delete)),
         _ => None,
     }
 }
@@ -179,11 +179,11 @@ pub(crate) fn request_at(call: u32, a: u32, b: u32) -> Option<Request>
         0 => open_at(a, b),
         11 => path_at(a),
         12 => branch_at(a),
-        13 => Some(Request::Ask(Command::Why(a))),
+        13 => Some(Request::Ask(Call::Why(a))),
         14 => extents_at(a),
-        15 => Some(Request::Ask(Command::Sizes)),
+        15 => Some(Request::Ask(Call::Sizes)),
         16 => forget_at(a),
-        17 => Some(Request::Ask(Command::Save)),
+        17 => Some(Request::Ask(Call::Save)),
         _ => change_at(call, a, b),
     }
 }

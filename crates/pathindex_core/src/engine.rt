@@ -2,7 +2,7 @@
 ghost use Rattle.std.specs.Prelude.{◌≡◌, ◌≢◌, ◌<◌, ◌≤◌, ◌↔◌, Err, Some, None, false, map, OnOk, OnErr, IfOk, IfSome, IsSome, option_map};
 ghost use Rattle.std.specs.List.{AllPairs};
 ghost use Rattle.change_spec.specs.Steps.{is_new};
-ghost use Rattle.branch_query.specs.Queries.{query_of, path, branch};
+ghost use Rattle.branch_query.specs.Queries.{query_of, of_path, of_branch};
 ghost use Rattle.pathindex_core.specs.QueryAnswers.{IsQueried};
 ghost use Rattle.index_api.specs.declared.kinds.Via.TheVariants.{Data as TheGraph};
 ghost use Rattle.index_api.specs.Meanings.{IsBuilt};
@@ -226,7 +226,7 @@ impl<B: PathIndex> Engine<B> {
         requires sound { IsSound (by_meaning B.meaning self.old) }
         ensures sound { IsSound (by_meaning B.meaning self.new) }
         ensures asked { KeepsAllButViews (by_meaning B.meaning self.old) (by_meaning B.meaning self.new) }
-        ensures queried { IsQueried (by_meaning B.meaning self.old) (by_meaning B.meaning self.new) via (path expr.now) result steps.old steps.new }
+        ensures queried { IsQueried (by_meaning B.meaning self.old) (by_meaning B.meaning self.new) via (of_path expr.now) result steps.old steps.new }
     {
         self.ask(alloc, via, &Query::Path(expr), steps)
     }
@@ -247,7 +247,7 @@ impl<B: PathIndex> Engine<B> {
         requires sound { IsSound (by_meaning B.meaning self.old) }
         ensures sound { IsSound (by_meaning B.meaning self.new) }
         ensures asked { KeepsAllButViews (by_meaning B.meaning self.old) (by_meaning B.meaning self.new) }
-        ensures queried { IsQueried (by_meaning B.meaning self.old) (by_meaning B.meaning self.new) via (branch query.now) result steps.old steps.new }
+        ensures queried { IsQueried (by_meaning B.meaning self.old) (by_meaning B.meaning self.new) via (of_branch query.now) result steps.old steps.new }
     {
         self.ask(alloc, via, &Query::Branch(query), steps)
     }

@@ -9,7 +9,7 @@ use Rattle.path_spec.specs.Trees.{Expr}
 use Rattle.path_query.specs.Parsed.{SpellsPath}
 use Rattle.branch_spec.specs.Trees as branch_trees
 use Rattle.branch_text.specs.Parsed as branch_texts
-use Rattle.branch_query.specs.Queries.{Query, path, branch}
+use Rattle.branch_query.specs.Queries.{Query, of_path, of_branch}
 use Rattle.index_api.specs.declared.kinds.Via.{Via}
 use Rattle.index_api.specs.declared.answers.How.{How}
 use Rattle.pathindex_core.specs.Engines.{kept_in}
@@ -21,11 +21,11 @@ use Rattle.pathindex_session.specs.Sessions.{SessionOf, engine_in, graph_of}
 
 -- the text spells a path expression, as a query
 abbrev pub SpellsPathQuery : List ℕ → Query → Type 0
-SpellsPathQuery text q = (e : Expr) × SpellsPath text e × (q ≡ path e)
+SpellsPathQuery text q = (e : Expr) × SpellsPath text e × (q ≡ of_path e)
 
 -- the text spells a branching query
 abbrev pub SpellsBranchQuery : List ℕ → Query → Type 0
-SpellsBranchQuery text q = (b : branch_trees.Branch) × branch_texts.SpellsBranch text b × (q ≡ branch b)
+SpellsBranchQuery text q = (b : branch_trees.Branch) × branch_texts.SpellsBranch text b × (q ≡ of_branch b)
 
 -- What a session answers to a query.
 pub record IsAskedHow (s t : SessionOf) (via : Via) (q : Query) (result : Result How QueryError) : Type 0 where
@@ -42,7 +42,7 @@ pub record AnswersText (spells : Query → Type 0) (is_past : Bool) (s t : Sessi
   pub answered : IfOk result (λ how. (q : Query) × spells q × IsAnswered (graph_of s) (kept_in (engine_in s)) via q how t.nodes)
   -- it is refused for a limit exactly where the text passes one
   pub limit : (result ≡ Err (Refused Limit)) ↔ IsTrue is_past
-  -- else for the index only where that isn't kept
+  -- else for the index only if that isn't kept
   pub no_index : result ≡ Err (Refused NoIndex) → NamesMissingIndex (kept_in (engine_in s)) via
   -- nothing is answered then
   pub missing : NamesMissingIndex (kept_in (engine_in s)) via → (how : How) → result ≢ Ok how

@@ -98,6 +98,6 @@ abbrev pub settings_beside : Option (List ℕ) → Arguments → Option Settings
 settings_beside None g = None
 settings_beside (Some file) g = settings_with file (via_or_default g.graph_of) (number_or 200 20 g.blocks) (number_or 50 3 g.members)
 
--- the settings that the arguments give; none where they aren't well-formed
+-- the settings that the arguments give; none if they aren't well-formed
 abbrev pub arguments_settings : Arguments → Option Settings
 arguments_settings g = settings_beside g.graph g

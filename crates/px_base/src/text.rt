@@ -39,7 +39,7 @@ impl Model for Text {
 }
 
 impl Text {
-    /// The text of these bytes. `NotUtf8` exactly where they aren't UTF-8. O(b) for b bytes; it takes b bytes.
+    /// The text of these bytes. `NotUtf8` exactly if they aren't UTF-8. O(b) for b bytes; it takes b bytes.
     pub fn from_bytes(alloc: Global, bytes: &[u8]) -> Result<Text, TextError>
         ensures ok { IfOk result (λ t. t ≡ bytes.now) }
         ensures utf8 { OnOk result (IsUtf8 bytes.now) }

@@ -49,7 +49,7 @@ pub record GivesMore (old new : List ℕ) : Type 0 where
   -- none has fewer
   pub rest : (m : ℕ) → slice_index old m ≤ slice_index new m
 
--- the support of a pair is written, and its blocks are neighbours exactly where it isn't 0
+-- the support of a pair is written, and its blocks are neighbours exactly if it isn't 0
 pub record IsWritten (a b n : ℕ) (old new : KeptPairs) (children children2 parents parents2 : KeptLists) : Type 0 where
   -- no other support changes
   pub pairs : new.pairs ≡ with_support old.pairs (a, b) n

@@ -13,7 +13,7 @@ pub record KeptMoves : Type 0 where
   -- for each block of the base how many of its members are moved
   pub taken : List (ℕ × ℕ)
 
--- how many are counted for a block, and none where it isn't in the table
+-- how many are counted for a block, and none if it isn't in the table
 abbrev pub counted : List (ℕ × ℕ) → ℕ → ℕ
 counted counts b = unwrap_or (lookup (nat_eq b) counts) 0
 

@@ -14,7 +14,7 @@ ends_from pairs a = filter_map (λ p. cond (nat_eq a p.0) (Some p.1) None) pairs
 abbrev pub ends_onto : List (ℕ × ℕ) → ℕ → List ℕ
 ends_onto pairs b = filter_map (λ p. cond (nat_eq b p.1) (Some p.0) None) pairs
 
--- the ends that are noted for a block, and none where it isn't in the table
+-- the ends that are noted for a block, and none if it isn't in the table
 abbrev pub listed : List (ℕ × SmallVec ℕ) → ℕ → List ℕ
 listed ends b = option_map_or (λ v. v.items) (lookup (nat_eq b) ends) []
 

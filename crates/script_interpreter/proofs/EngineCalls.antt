@@ -14,7 +14,7 @@ use Rattle.index_api.specs.declared.kinds.Via.{Via}
 use Rattle.index_api.specs.declared.kinds.Via.TheVariants.{Data}
 use Rattle.index_api.specs.Meanings.{Meaning, IsBuilt}
 use Rattle.index_api.specs.IndexKinds.{is_kind, has_kind, kinds_of, is_kept}
-use Rattle.branch_query.specs.Queries.{Query, path, branch}
+use Rattle.branch_query.specs.Queries.{Query, of_path, of_branch}
 use Rattle.triple_names.specs.Names.{Names}
 use Rattle.script_read.specs.Commands.{change, extents, sizes, forget}
 use Rattle.pathindex_core.specs.Engines.{Opened, EngineSeen, EachBecomes, IsKeptFor, AreKeptFor, IsSound, graph_in}
@@ -128,8 +128,8 @@ pub same_asked : (n : Names) (e f : EngineSeen) → KeepsAllButViews e f → sta
 same_asked n e f a i = record { graph = graph_in (a.opened i); kept = a.kept i; names = n }
 
 asks_query : (printing : Printing) (s : State) (via : Via) (q : Query) (text : List ℕ) (refuses : Bool) → ShowsAnswers printing s q via text refuses → Obeys (rules_for printing) s (query_command via q) text refuses s
-asks_query printing s via (path e) text refuses h = asks_path via e text refuses h
-asks_query printing s via (branch q) text refuses h = asks_branch via q text refuses h
+asks_query printing s via (of_path e) text refuses h = asks_path via e text refuses h
+asks_query printing s via (of_branch q) text refuses h = asks_branch via q text refuses h
 
 pub query_obeyed : (n : Names) (e f : EngineSeen) (via : Via) (q : Query) (text : List ℕ) (refuses : Bool) (old new : Gathered) → KeepsAllButViews e f
     → ShowsAnswers old.printing (state_in e n) q via text refuses → new ≡ with_printed old text refuses → Obeyed (state_in e n) (query_command via q) old (state_in f n) new

@@ -42,19 +42,19 @@ pairwise R (a ∷ xs) (b ∷ bs) h = (
 )
 
 -- of two indexes that are found, or of none, R holds
-pub data Both (R : Meaning → Meaning → Type 0) : Option Meaning → Option Meaning → Type 0 where
-  neither : Both R None None
-  both : (a b : Meaning) → R a b → Both R (Some a) (Some b)
+pub data BothMeanings (R : Meaning → Meaning → Type 0) : Option Meaning → Option Meaning → Type 0 where
+  neither : BothMeanings R None None
+  both : (a b : Meaning) → R a b → BothMeanings R (Some a) (Some b)
 
 -- what is found of one kind before and after
-found : (R : Meaning → Meaning → Type 0) (k : Kind) → ((a b : Meaning) → R a b → b.kind ≡ a.kind) → (olds news : List Meaning) → Pairwise R olds news → Both R (index_of olds k) (index_of news k)
+found : (R : Meaning → Meaning → Type 0) (k : Kind) → ((a b : Meaning) → R a b → b.kind ≡ a.kind) → (olds news : List Meaning) → Pairwise R olds news → BothMeanings R (index_of olds k) (index_of news k)
 found R k same [] [] h = neither
 found R k same [] (b ∷ bs) h = absurd h
 found R k same (a ∷ xs) [] h = absurd h
 found R k same (a ∷ xs) (b ∷ bs) h =
-    elim (is_kind k a.kind) as (λ t. is_kind k b.kind ≡ t → Both R (cond t (Some a) (index_of xs k)) (cond (is_kind k b.kind) (Some b) (index_of bs k))) [
-      | true ↦ λ e. subst (λ t. Both R (Some a) (cond t (Some b) (index_of bs k))) (sym e) (both a b h.0)
-      | false ↦ λ e. subst (λ t. Both R (index_of xs k) (cond t (Some b) (index_of bs k))) (sym e) (found R k same xs bs h.1)
+    elim (is_kind k a.kind) as (λ t. is_kind k b.kind ≡ t → BothMeanings R (cond t (Some a) (index_of xs k)) (cond (is_kind k b.kind) (Some b) (index_of bs k))) [
+      | true ↦ λ e. subst (λ t. BothMeanings R (Some a) (cond t (Some b) (index_of bs k))) (sym e) (both a b h.0)
+      | false ↦ λ e. subst (λ t. BothMeanings R (index_of xs k) (cond t (Some b) (index_of bs k))) (sym e) (found R k same xs bs h.1)
     ] (ap (is_kind k) (same a b h.0))
 
 none_found : (k : Kind) (boxes : List Meaning) → has_kind (kinds_of boxes) k ≡ false → index_of boxes k ≡ None
@@ -80,7 +80,7 @@ first_state n g o olds news same built kinds all = record {
     begins : (k : Kind) (x : Option View) (v : View) → k ≡ kind.One → x ≡ Some v → BeginsFull k g x → Agrees (shape_of g) v.block_of (Bisim (shape_of g))
     begins k x v e f w = subst (λ y. BeginsFull kind.One g y) f (subst (λ z. BeginsFull z g x) e w)
 
-    by_found : (one : HasOne o.graph news) (x y : Option Meaning) → Both (λ a b. IsBuilt a b g o.k) x y → y ≡ Some one.index → Agrees (shape_of g) one.view.block_of (Bisim (shape_of g))
+    by_found : (one : HasOne o.graph news) (x y : Option Meaning) → BothMeanings (λ a b. IsBuilt a b g o.k) x y → y ≡ Some one.index → Agrees (shape_of g) one.view.block_of (Bisim (shape_of g))
     by_found one None None neither e = absurd (cc)
     by_found one None (Some b) f e = elim f [ ]
     by_found one (Some a) None f e = elim f [ ]
@@ -88,7 +88,7 @@ first_state n g o olds news same built kinds all = record {
         let same : b ≡ one.index = cc in
         begins a.kind (view_at b.views 0) one.view (sym r.kind ∙ ap (λ m. m.kind) same ∙ one.of_kind) (ap (λ m. view_at m.views 0) same ∙ one.view_is) r.full
 
-    whole : (one : HasOne o.graph news) → Both (λ a b. IsBuilt a b g o.k) (index_of olds kind.One) (index_of news kind.One) → Agrees (shape_of g) (one_in news) (Bisim (shape_of g))
+    whole : (one : HasOne o.graph news) → BothMeanings (λ a b. IsBuilt a b g o.k) (index_of olds kind.One) (index_of news kind.One) → Agrees (shape_of g) (one_in news) (Bisim (shape_of g))
     whole one f = subst (λ p. Agrees (shape_of g) p (Bisim (shape_of g))) (sym one.blocks) (by_found one _ _ f one.index_is)
 
 weaker : (R Q : Meaning → Meaning → Type 0) → ((a b : Meaning) → R a b → Q a b) → (olds news : List Meaning) → Pairwise R olds news → Pairwise Q olds news
@@ -102,7 +102,7 @@ abbrev blocks_found : Option Meaning → List (Option ℕ)
 blocks_found x = blocks_in (option_and_then (λ m. view_at m.views 0) x)
 
 -- the 1-index that is found moved by one step
-step_found : (c : List Step) (g : Graph) (x y : Option Meaning) (m : Meaning) → Both (λ a b. IsMoved a b c g) x y → x ≡ Some m → m.kind ≡ kind.One
+step_found : (c : List Step) (g : Graph) (x y : Option Meaning) (m : Meaning) → BothMeanings (λ a b. IsMoved a b c g) x y → x ≡ Some m → m.kind ≡ kind.One
     → OneStep g (blocks_found x) c (after c g) (blocks_found y)
 step_found c g None None m neither e k = absurd (cc)
 step_found c g None (Some b) m f e k = elim f [ ]

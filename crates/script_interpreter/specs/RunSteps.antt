@@ -31,8 +31,8 @@ pub record Extends (old new : List ℕ) : Type 0 where
 
 -- the command that asks a query through this
 abbrev pub query_command : Via → Query → Command
-query_command via (query.path e) = path via e
-query_command via (query.branch q) = branch via q
+query_command via (query.of_path e) = path via e
+query_command via (query.of_branch q) = branch via q
 
 -- the command is neither the first nor the last line of a group, nor does it write a file
 abbrev pub IsAlone : Command → Type 0

@@ -41,7 +41,7 @@ pub record IsChanged (s : State) (c : List Step) (h : Graph) (t : State) : Type 
   pub same : is_new c s.graph ≡ false → t ≡ s
   -- where some step isn't, the 1-index, if it is kept, moves by one step
   pub step : is_new c s.graph ≡ true → IsTrue (keeps s One) → OneStep s.graph s.kept.one c h t.kept.one
-  -- where it isn't kept, what the state has as its blocks stays
+  -- if it isn't kept, what the state has as its blocks stays
   pub none : keeps s One ≡ false → t.kept.one ≡ s.kept.one
 
 -- what a change makes of the state, by its outcome: a refusal leaves it
@@ -75,9 +75,9 @@ pub data Obeys (rules : Rules) (s : State) : Command → List ℕ → Bool → S
   deletes : (x : Triple) (c : List Step) (printed : List ℕ) (refuses : Bool) (t : State) → delete_change s.names s.graph x ≡ Some c
       → Makes rules OfGroup s c printed refuses t → Obeys rules s (delete x) printed refuses t
   misses : (x : Triple) → delete_change s.names s.graph x ≡ None → Obeys rules s (delete x) (refused_line NoNode) true s
-  asks_path : (via : Via) (e : Expr) (text : List ℕ) (refuses : Bool) → ShowsAnswers rules.printing s (query.path e) via text refuses
+  asks_path : (via : Via) (e : Expr) (text : List ℕ) (refuses : Bool) → ShowsAnswers rules.printing s (query.of_path e) via text refuses
       → Obeys rules s (path via e) text refuses s
-  asks_branch : (via : Via) (q : Branch) (text : List ℕ) (refuses : Bool) → ShowsAnswers rules.printing s (query.branch q) via text refuses
+  asks_branch : (via : Via) (q : Branch) (text : List ℕ) (refuses : Bool) → ShowsAnswers rules.printing s (query.of_branch q) via text refuses
       → Obeys rules s (branch via q) text refuses s
   explains : (v : ℕ) (e : Expr) (text : List ℕ) (refuses : Bool) → ShowsWhy s v e text refuses → Obeys rules s (why v e) text refuses s
   checks : (nodes : List ℕ) (e : Expr) (text : List ℕ) → ShowsCheck s nodes e text → Obeys rules s (check nodes e) text false s

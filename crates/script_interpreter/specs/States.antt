@@ -36,7 +36,7 @@ pub record BeginsRun (g : Graph) (n : Names) (given : List Kind) (k : ℕ) (s : 
   pub level : s.kept.k ≡ k
   -- the 1-index, where it is kept, shows full bisimilarity
   pub one : IsTrue (keeps s One) → Agrees (shape_of g) s.kept.one (Bisim (shape_of g))
-  -- where it isn't kept, the state has no blocks of it
+  -- if it isn't kept, the state has no blocks of it
   pub none : keeps s One ≡ false → s.kept.one ≡ []
 
 -- the kinds other than that one

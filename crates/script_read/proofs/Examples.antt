@@ -184,10 +184,10 @@ no_other_way Fb e h = omega (arith, ap (λ l. slice_index l 0) h.0.1)
 no_other_way (B level) e h = omega (arith, ap (λ l. slice_index l 0) h.0.1)
 
 -- `branch` takes branching queries, and `path` doesn't
-branch_spelled : IsSpelled (codes "branch fb  a\t") (branch Fb (tree.branch (tree.step (tree.label (codes "a")) tree.none) tree.end))
+branch_spelled : IsSpelled (codes "branch fb  a\t") (branch Fb (tree.first_step (tree.step (tree.label (codes "a")) tree.none) tree.no_step))
 branch_spelled = ((refl, refl, tt), ([], codes "a", [], refl, inl (plain_a, refl), (λ _. tt), refl, refl))
 
-up_spelled : IsSpelled (codes "branch data a\\_") (branch Data (tree.branch (tree.step (tree.label (codes "a")) tree.none) (tree.go tree.parent (tree.step tree.any tree.none) tree.end)))
+up_spelled : IsSpelled (codes "branch data a\\_") (branch Data (tree.first_step (tree.step (tree.label (codes "a")) tree.none) (tree.go tree.parent (tree.step tree.any tree.none) tree.no_step)))
 up_spelled = (
   (refl, refl, tt),
   ([], codes "a", codes "\\_", refl, inl (plain_a, refl), (λ _. refl), ([], codes "\\", codes "_", refl, refl, refl, ([], codes "_", [], refl, refl, tt, refl, refl), refl), refl),

@@ -97,7 +97,7 @@ impl TermTable {
         self.index.len()
     }
 
-    /// Where the term stands, with its number, and `None` exactly where it isn't there. Expected O(b) for texts
+    /// Where the term stands, with its number, and `None` exactly if it isn't there. Expected O(b) for texts
     /// of b bytes, no memory.
     pub fn find(&self, term: &Term) -> Option<Found>
         ensures { IsFoundAs self.now term.now result }

@@ -10,7 +10,7 @@ fn iri(alloc: Global, content: &str) -> Result<HashedTerm, Memory> {
     Ok(HashedTerm::new(Term::Iri(Text::from_string(content))))
 }
 
-// Puts terms in where they aren't there, and answers the place of the last one.
+// Puts terms in if they aren't there, and answers the place of the last one.
 fn fill(table: &mut TermTable, terms: &[HashedTerm]) -> Result<Option<u32>, Memory> {
     let mut last = None;
     for term in terms {

@@ -73,7 +73,7 @@ delete_steps n g t triple =
     drop triple ∷ (drop_with g (node_there n g (of_term t.subject)) triple
     ++ (if same_term t.object t.subject then [] else drop_with g (node_there n g (of_term t.object)) triple))
 
--- the steps that delete a triple, and none where it isn't there
+-- the steps that delete a triple, and none if it isn't there
 abbrev pub deletion : Names → Graph → Triple → Option ℕ → Option (List Step)
 deletion n g t None = None
 deletion n g t (Some triple) = Some (delete_steps n g t triple)

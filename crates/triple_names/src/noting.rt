@@ -95,7 +95,7 @@ fn reserve_term(
     Ok(found.place)
 }
 
-// The place of a predicate, which is put in where it isn't there.
+// The place of a predicate, which is put in if it isn't there.
 fn reserve_predicate(alloc: Global, predicates: &mut Predicates, iri: &Text) -> Result<u32, Memory>
     ensures begins { Begins predicates.old predicates.new }
     ensures place { IfOk result (λ p. position (bytes_eq iri.now) predicates.new ≡ Some p) }

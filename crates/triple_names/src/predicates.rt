@@ -109,7 +109,7 @@ impl Predicates {
         Ok(())
     }
 
-    /// The place of the predicate, which may be known. The predicate is put in where it isn't there.
+    /// The place of the predicate, which may be known. The predicate is put in if it isn't there.
     pub fn intern(&mut self, alloc: Global, iri: &Text, found: Option<u32>) -> Result<u32, Memory>
         requires few { length self.old < 2 ^ 30 }
         requires found { IfSome found (λ p. position (bytes_eq iri.now) self.old ≡ Some p) }

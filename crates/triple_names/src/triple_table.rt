@@ -52,7 +52,7 @@ impl TripleTable {
         self.get(key).is_some()
     }
 
-    /// The number beside the key, and `None` exactly where it isn't there. Expected O(1), no memory.
+    /// The number beside the key, and `None` exactly if it isn't there. Expected O(1), no memory.
     pub fn get(&self, key: Key) -> Option<NodeId>
         ensures { result ≡ lookup (same_key key) self.now }
     {

@@ -9,7 +9,7 @@ use Rattle.std.proofs.lemmas.Str.{encode_ascii, encodes-append}
 use Rattle.std.proofs.lemmas.Bool.{eqb-true}
 use Rattle.std.proofs.lemmas.List.{append-nil, length-drop}
 use Rattle.std.proofs.lemmas.List.Sums.{prefix_len-le-length}
-use Rattle.triples_read.specs.Characters.{is_blank}
+use Rattle.graph_spec.specs.Words.{is_blank}
 use Rattle.triples_read.specs.Terminals.{AllOf, Blanks}
 use Rattle.triples_read.specs.ByteReaders.{past_blanks}
 use Rattle.triples_read.specs.SpelledPrefixes.{Prefix, IsText}

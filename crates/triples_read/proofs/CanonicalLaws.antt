@@ -12,7 +12,8 @@ use Rattle.std.proofs.lemmas.Bool.Decides.{nat_tests}
 use Rattle.std.proofs.lemmas.Slice.Eq.{bytes_eq-Decides}
 use Rattle.std.proofs.lemmas.List.{append-nil}
 use Rattle.std.proofs.lemmas.List.Concat.{flat_map-cons}
-use Rattle.triples_read.specs.Characters.{from_to, is_blank, is_letter, is_letter_or_digit}
+use Rattle.graph_spec.specs.Words.{is_blank, is_letter}
+use Rattle.triples_read.specs.Characters.{from_to, is_letter_or_digit}
 use Rattle.triples_read.specs.Terminals.{Many, StringPiece, STRING_LITERAL_QUOTE, escape_of, IsLabel, EndsIn, AllOf, OneOrMore, LANGTAG}
 use Rattle.triples_read.specs.Lines.{IsIri, IsBlankNode, IsLiteral, IsSubject, IsObject, Suffix, SpellsTriple, xsd_string, lang_string}
 use Rattle.triples_read.specs.SpelledPrefixes.{IsLabelPrefix}

@@ -2,7 +2,8 @@
 use Rattle.std.proofs.Common.{◌≡◌, ◌≢◌, ◌<◌, arith, ℕ, List, [], ◌∷◌, ◌++◌, true, false, refl, sym, subst, inl, inr}
 use Rattle.std.proofs.Math.Utf8.{encodes}
 use Rattle.std.proofs.lemmas.Str.{encode_ascii}
-use Rattle.triples_read.specs.Characters.{is_blank, is_letter_or_digit}
+use Rattle.graph_spec.specs.Words.{is_blank}
+use Rattle.triples_read.specs.Characters.{is_letter_or_digit}
 use Rattle.triples_read.specs.Terminals.{Blanks, Comment, IRIREF}
 use Rattle.triples_read.specs.SpelledPrefixes.{EndsLabel, EndsTag}
 use Rattle.triples_read.specs.LineRests.{AfterObject}

@@ -5,7 +5,7 @@ use Rattle.std.specs.Str.{IsCharBoundary}
 use Rattle.std.proofs.Math.Utf8.{scalars, encodes}
 use Rattle.std.proofs.lemmas.Str.{encode_ascii}
 use Rattle.std.proofs.lemmas.Bool.{eqb-true}
-use Rattle.triples_read.specs.Characters.{is_blank}
+use Rattle.graph_spec.specs.Words.{is_blank}
 use Rattle.triples_read.specs.Terminals.{Blanks}
 use Rattle.triples_read.specs.ByteReaders.{past_blanks, starts_with}
 use Rattle.triples_read.specs.SpelledPrefixes.{IsText}

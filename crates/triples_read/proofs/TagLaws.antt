@@ -9,7 +9,8 @@ use Rattle.std.proofs.lemmas.Str.{encode_ascii, encodes-append}
 use Rattle.std.proofs.lemmas.Bool.{eqb-true, ne_eqb, cases_lt}
 use Rattle.std.proofs.lemmas.Bool.Decides.{nat_tests}
 use Rattle.std.proofs.lemmas.List.Concat.{flat_map-cons}
-use Rattle.triples_read.specs.Characters.{is_letter, is_letter_or_digit}
+use Rattle.graph_spec.specs.Words.{is_letter}
+use Rattle.triples_read.specs.Characters.{is_letter_or_digit}
 use Rattle.triples_read.specs.Terminals.{AllOf, OneOrMore, LANGTAG}
 use Rattle.triples_read.specs.ByteReaders.{past_tag, tag_part}
 use Rattle.triples_read.specs.SpelledPrefixes.{Prefix, IsText, EndsTag}

@@ -2,10 +2,11 @@
 use Rattle.std.specs.Prelude.{ℕ, zero, suc, Bool, true, false, List, [], ◌∷◌, ◌+◌, ◌*◌, ◌==◌, Option, Some, None, if◌then◌else◌}
 use Rattle.std.specs.Char.{digit_value}
 use Rattle.std.proofs.Math.Utf8.{scalar}
-use Rattle.triples_read.specs.Characters.{is_hex, pn_chars, is_blank, is_letter, is_letter_or_digit}
+use Rattle.graph_spec.specs.Words.{is_blank, is_letter}
+use Rattle.triples_read.specs.Characters.{is_hex, pn_chars, is_letter_or_digit}
 use Rattle.triples_read.specs.Terminals.{escape_of}
 
--- the number that k hexadecimal digits at the front write behind those of n; none where they aren't all there
+-- the number that k hexadecimal digits at the front write behind those of n; none if they aren't all there
 abbrev pub hex_at : ℕ → ℕ → List ℕ → Option ℕ
 hex_at zero n bytes = Some n
 hex_at (suc k) n [] = None

@@ -3,14 +3,11 @@
 use Rattle.std.specs.Prelude.{ℕ, Bool, ◌==◌, ◌&&◌, ◌||◌, nat_le, nat_lt}
 use Rattle.std.specs.Char.{digit_value}
 use Rattle.std.proofs.Common.{not}
+use Rattle.graph_spec.specs.Words.{is_letter}
 
 -- from low to high, both of them included
 abbrev pub from_to : ℕ → ℕ → ℕ → Bool
 from_to low high c = nat_le low c && nat_le c high
-
--- [A-Z] | [a-z]
-abbrev pub is_letter : ℕ → Bool
-is_letter c = from_to 65 90 c || from_to 97 122 c
 
 -- [0-9]
 abbrev pub is_digit : ℕ → Bool
@@ -29,10 +26,6 @@ pn_chars_u c = pn_chars_base c || c == 95 || c == 58
 -- [160s] PN_CHARS
 abbrev pub pn_chars : ℕ → Bool
 pn_chars c = pn_chars_u c || c == 45 || is_digit c || c == 0xB7 || from_to 0x300 0x36F c || from_to 0x203F 0x2040 c
-
--- white space between terminals: a space or a tab
-abbrev pub is_blank : ℕ → Bool
-is_blank c = c == 32 || c == 9
 
 -- [162s] HEX: [0-9] | [A-F] | [a-f]
 abbrev pub is_hex : ℕ → Bool

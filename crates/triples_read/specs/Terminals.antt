@@ -3,7 +3,8 @@
 use Rattle.std.specs.Prelude.{ℕ, Bool, ◌==◌, List, [], ◌∷◌, ◌++◌, ◌≡◌, ◌≢◌, ◌⊎◌, ◌+◌, ◌*◌, length, IsTrue, map, if◌then◌else◌, Option, Some, None}
 use Rattle.std.specs.Char.{IsScalar, digit_value, to_ascii_lowercase}
 use Rattle.std.specs.List.{flat_map, AllByRecursion}
-use Rattle.triples_read.specs.Characters.{is_hex, is_iri_char, is_string_char, is_letter, is_letter_or_digit, label_first, label_inner, pn_chars, is_blank}
+use Rattle.graph_spec.specs.Words.{is_letter, is_blank}
+use Rattle.triples_read.specs.Characters.{is_hex, is_iri_char, is_string_char, is_letter_or_digit, label_first, label_inner, pn_chars}
 
 -- ( .. )*: one piece spells each character
 abbrev pub Many : (List ℕ → ℕ → Type 0) → List ℕ → List ℕ → Type 0

@@ -1,7 +1,7 @@
 // What stands at the front of a text: blanks, a comment, an ASCII character.
 ghost use Rattle.std.specs.Prelude.{◌≡◌, ◌<◌, ◌∷◌, List, ℕ, false, MatchOption};
 ghost use Rattle.std.specs.List.{prefix_len};
-ghost use Rattle.triples_read.specs.Characters.{is_blank as blank};
+ghost use Rattle.graph_spec.specs.Words.{is_blank as blank};
 ghost use Rattle.triples_read.specs.ByteReaders.{past_blanks, is_over as over, starts_with as starts};
 
 fn is_blank(b: u8) -> bool

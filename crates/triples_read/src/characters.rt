@@ -1,6 +1,7 @@
 // Classes of characters, by the standard's names.
 ghost use Rattle.std.specs.Prelude.{◌≡◌};
-ghost use Rattle.triples_read.specs.Characters.{from_to as is_from_to, is_letter as letter, is_digit as digit, is_letter_or_digit as letter_or_digit, pn_chars_base, pn_chars_u, pn_chars, label_first, is_iri_char, is_string_char};
+ghost use Rattle.graph_spec.specs.Words.{is_letter as letter};
+ghost use Rattle.triples_read.specs.Characters.{from_to as is_from_to, is_digit as digit, is_letter_or_digit as letter_or_digit, pn_chars_base, pn_chars_u, pn_chars, label_first, is_iri_char, is_string_char};
 
 fn from_to(low: u32, high: u32, c: u32) -> bool
     ensures { result ≡ is_from_to low high c }

@@ -158,7 +158,7 @@ fn push_triple(out: &mut String, t: &Triple) -> Result<(), AllocError>
 }
 
 /// The canonical spelling of a term: an IRI in brackets, a blank node behind `_:`, a literal with its tag, or
-/// with its datatype where that isn't `xsd:string`. Only the characters that must be escaped are. O(b) for a
+/// with its datatype if that isn't `xsd:string`. Only the characters that must be escaped are. O(b) for a
 /// spelling of b bytes, which is all the memory that it takes.
 pub fn write_term(alloc: Global, t: &Term) -> Result<Text, Memory>
     ensures { IfOk result (λ text. text ≡ encode_utf8_all (term_text t.now)) }

@@ -268,7 +268,7 @@ in_last at size label_at edge v layers rows s c is first m d last =
       | inr other ↦ absurd (first f.0 (omega (arith, b, last, other)) f.2)
     ]
 
--- where it isn't marked when the layers end, nothing is read from it
+-- if it isn't marked when the layers end, nothing is read from it
 pub none_read : (at : ℕ → Option State) (size : ℕ) (label_at : ℕ → Option ℕ) (edge : ℕ → ℕ → Bool) (v : ℕ) (layers : List (List Pair)) (rows : List BitSet)
     → IsLayeredBy at size label_at edge v layers rows → (s c : ℕ) → (IsMarked rows s c → ⊥)
     → IsMarked rows s c ⊎ ((k x n : ℕ) → n + 1 ≡ length layers → Among (layer_at layers n) k x → ⊥) → (nodes : List ℕ) → Way at size label_at edge v s c nodes → ⊥

@@ -109,10 +109,10 @@ deep_spelled = (
 -- ---- the branching query
 
 abbrev pub denied : tree.Branch
-denied = tree.branch (tree.step (tree.label (codes "iri")) (tree.pred (tree.one (tree.and
-    (tree.rel tree.child (tree.step (tree.label (codes "<http://e/p0>")) tree.none) tree.end)
-    (tree.lone (tree.fails (tree.one (tree.lone (tree.rel tree.child (tree.step (tree.label (codes "<http://e/p1>")) tree.none) tree.end)))))
-    )) tree.none)) tree.end
+denied = tree.first_step (tree.step (tree.label (codes "iri")) (tree.pred (tree.one (tree.and
+    (tree.rel tree.child (tree.step (tree.label (codes "<http://e/p0>")) tree.none) tree.no_step)
+    (tree.lone (tree.fails (tree.one (tree.lone (tree.rel tree.child (tree.step (tree.label (codes "<http://e/p1>")) tree.none) tree.no_step)))))
+    )) tree.none)) tree.no_step
 
 pub denied_spelled : SpellsBranch (codes "iri[/<http://e/p0> and not(/<http://e/p1>)]") denied
 denied_spelled = (

@@ -1,6 +1,6 @@
 use Rattle.std.proofs.Common.{◌∙◌, sym, ap, drop, ℕ}
 use Rattle.std.specs.List.{prefix_len}
-use Rattle.triples_read.specs.Characters.{is_blank}
+use Rattle.graph_spec.specs.Words.{is_blank}
 use Rattle.triples_read.proofs.BlankLaws.{blanks-counted, blanks-boundary}
 use Rattle.triples_read.proofs.blanks.skip_blanks.Goals as goal
 
