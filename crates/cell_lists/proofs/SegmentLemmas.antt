@@ -59,6 +59,13 @@ take-next zero (suc zero) (x ∷ xs) v e h = refl
 take-next zero (suc (suc m)) (x ∷ xs) v e h = absurd (omega (arith, e))
 take-next (suc n) (suc m) (x ∷ xs) v e h = ap (λ l. x ∷ l) (take-next n m xs v (omega (arith, e)) (omega arith))
 
+-- apart either way
+pub turned : (s t : Segment) → IsApart s t → IsApart t s
+turned s t h a b = elim (h b a) [
+  | inl e ↦ inr e
+  | inr e ↦ inl e
+]
+
 pub short-is : (n : ℕ) → nat_lt n 2 ≡ true → n < 2
 short-is n h = grind (arith, nat_tests, h)
 

@@ -84,9 +84,9 @@ pub fn make_place(cells: &mut Vec<u32>, segment: &mut Segment, taken: usize) -> 
     Ok(())
 }
 
-/// Reserves capacity for that many numbers more, unless it is there. The list then lies behind all others, and the cells
-/// that it had are used no more. O(1), or O(n) to move a list of n numbers, amortized O(m) for m numbers one by one; where
-/// memory runs out the list stays.
+/// Reserves capacity for that many numbers more, unless it is there. The list then lies behind all others, with at least
+/// twice its capacity, and the cells that it had are used no more. O(1), or O(n + m) to move a list of n numbers for m
+/// more; where memory runs out the list stays.
 pub fn make_places(cells: &mut Vec<u32>, segment: &mut Segment, more: usize) -> Result<(), Memory>
     requires { LiesWithin (length cells.old.items) segment.old }
     ensures writes { Writes cells.old.items cells.new.items segment.old segment.new }

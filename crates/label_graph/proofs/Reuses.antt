@@ -10,7 +10,8 @@ use Rattle.label_graph.specs.declared.node.Row.{Row}
 use Rattle.label_graph.specs.Nodes.{labels_of, number_at, IsKept, IsGoneBeside, children_of, parents_of, child_reserved, parent_reserved, SameNodes}
 use Rattle.cell_lists.specs.Segments.{items_in, LiesWithin, IsApart, Writes, Exchanges}
 use Rattle.label_graph.specs.NodeRows.{list_of, with_list, segments_of, AreHeld, AreRows, row_labels, node_in, nodes_in}
-use Rattle.label_graph.proofs.RowLemmas.{twice, twice-is, turned, children-list, parents-list, labels-by, set-label, rows-written}
+use Rattle.cell_lists.proofs.SegmentLemmas.{turned}
+use Rattle.label_graph.proofs.RowLemmas.{twice, twice-is, children-list, parents-list, labels-by, set-label, rows-written}
 
 -- a list by its number
 abbrev nowhere : Segment

@@ -7,6 +7,7 @@ use Rattle.cell_lists.specs.declared.segment.Segment.{Segment}
 use Rattle.label_graph.specs.declared.node.Row.{Row}
 use Rattle.label_graph.specs.Nodes.{Node, labels_of, number_at, children_of, parents_of}
 use Rattle.cell_lists.specs.Segments.{items_in, LiesWithin, IsApart, Writes}
+use Rattle.cell_lists.proofs.SegmentLemmas.{turned}
 use Rattle.label_graph.specs.NodeRows.{segments_of, AreHeld, AreRows, row_labels, list_in, node_in, nodes_in}
 use Rattle.label_graph.proofs.SetNodes.{children-at, parents-at}
 
@@ -59,13 +60,6 @@ parent-lists (y ∷ ys) zero r t h is (suc (suc i)) u e = inr ((λ q. absurd (om
 parent-lists (y ∷ ys) (suc n) r t h is zero u e = inr ((λ q. absurd (omega (arith, q))), e)
 parent-lists (y ∷ ys) (suc n) r t h is (suc zero) u e = inr ((λ q. absurd (omega (arith, q))), e)
 parent-lists (y ∷ ys) (suc n) r t h is (suc (suc i)) u e = further (suc (twice n)) i u t _ (parent-lists ys n r t (omega arith) is i u e)
-
--- apart either way
-pub turned : (s t : Segment) → IsApart s t → IsApart t s
-turned s t h a b = elim (h b a) [
-  | inl e ↦ inr e
-  | inr e ↦ inl e
-]
 
 module _ (cells more : List ℕ) (old new : List Row) (k : ℕ) (s t : Segment) (is : IsSetAt old new k s t) (w : Writes cells more s t) (h : AreHeld cells old) where
   within-new : (i : ℕ) (u : Segment) → ((i ≡ k) × (u ≡ t)) ⊎ ((i ≢ k) × (slice_get (segments_of old) i ≡ Some u)) → LiesWithin (length more) u

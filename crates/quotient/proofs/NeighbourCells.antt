@@ -6,7 +6,7 @@ use Rattle.std.proofs.lemmas.List.{map-set, set-get_or}
 use Rattle.std.proofs.lemmas.Option.{slice_get-get_or, slice_get_within}
 use Rattle.cell_lists.specs.declared.segment.Segment.{Segment}
 use Rattle.cell_lists.specs.Segments.{items_in, LiesWithin, IsApart, Writes}
-use Rattle.cell_lists.proofs.SegmentLemmas.{items-length, items-none}
+use Rattle.cell_lists.proofs.SegmentLemmas.{items-length, items-none, turned}
 use Rattle.quotient.specs.NeighbourCells.{AreHeld, spare_in}
 use Rattle.quotient.specs.QuotientNeighbours.{list_at}
 use Rattle.quotient.specs.QuotientTables.{GivesMore}
@@ -26,13 +26,6 @@ lists-set (y ∷ ys) zero t zero u e = inl (refl, sym (only t u e))
 lists-set (y ∷ ys) zero t (suc i) u e = inr ((λ q. absurd (omega (arith, q))), e)
 lists-set (y ∷ ys) (suc n) t zero u e = inr ((λ q. absurd (omega (arith, q))), e)
 lists-set (y ∷ ys) (suc n) t (suc i) u e = further n i u t _ (lists-set ys n t i u e)
-
--- apart either way
-turned : (s t : Segment) → IsApart s t → IsApart t s
-turned s t h a b = elim (h b a) [
-  | inl e ↦ inr e
-  | inr e ↦ inl e
-]
 
 same-map : (f g : Segment → List ℕ) (ss : List Segment) → ((m : ℕ) (u : Segment) → slice_get ss m ≡ Some u → f u ≡ g u) → map_list f ss ≡ map_list g ss
 same-map f g [] h = refl

@@ -2,7 +2,7 @@ use Rattle.std.proofs.Common.{sym, ◌∙◌, ap}
 use Rattle.std.specs.Prelude.{position, nat_eq}
 use Rattle.cell_lists.specs.Segments.{items_in}
 use Rattle.cell_lists.proofs.ListWithout.{untaken}
-use Rattle.cell_lists.proofs.SegmentLemmas.{place-within, items-without}
+use Rattle.cell_lists.proofs.SegmentLemmas.{items-without}
 use Rattle.cell_lists.proofs.segment.take_out.Goals as goal
 
 pub returns-in_default-clause-without : goal.returns-in_default-clause-without
