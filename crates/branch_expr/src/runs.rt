@@ -80,5 +80,9 @@ pub(crate) fn end_of_run(from: u32, size: u32) -> u32
     ensures within { result ≤ size }
     ensures few { result ≤ from + 1024 }
 {
-    if size - from < RUN as u32 { size } else { from + RUN as u32 }
+    if size - from < RUN as u32 {
+        size
+    } else {
+        from + RUN as u32
+    }
 }

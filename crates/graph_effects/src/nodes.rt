@@ -40,7 +40,11 @@ fn live_nodes(alloc: Global, first: u32, end: u32, after: &After<'_>) -> Result<
 }
 
 /// The nodes that come.
-pub(crate) fn came_nodes(alloc: Global, graph: &Graph, after: &After<'_>) -> Result<FewNodes, Memory>
+pub(crate) fn came_nodes(
+    alloc: Global,
+    graph: &Graph,
+    after: &After<'_>,
+) -> Result<FewNodes, Memory>
     requires { after.now.before ≡ graph.now.graph }
     ensures { IfOk result (λ nodes. Lists (is_new_node after.now.before (graph_after after.now)) nodes.items) }
 {

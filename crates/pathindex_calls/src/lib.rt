@@ -4,8 +4,8 @@
 //! before and after it (`IsCalled`), by the clauses of the session.
 #![tactic(auto)]
 
-mod changes;
 mod calls;
+mod changes;
 mod copying;
 mod held;
 mod questions;

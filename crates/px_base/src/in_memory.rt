@@ -190,7 +190,12 @@ impl MemSink {
     /// One call writes at most `piece` bytes, which is 1 or more. Calls are numbered from 1 on, and exactly
     /// those fail whose numbers are listed in `failing`, or that find it full. O(1); it takes `capacity`
     /// bytes, and a write takes no memory.
-    pub fn new(alloc: Global, piece: u32, failing: Vec<u32>, capacity: u32) -> Result<MemSink, Memory>
+    pub fn new(
+        alloc: Global,
+        piece: u32,
+        failing: Vec<u32>,
+        capacity: u32,
+    ) -> Result<MemSink, Memory>
         requires { 1 ≤ piece }
         ensures { IfOk result (λ s. s ≡ record { written = []; capacity = capacity; piece = piece; failing = failing.items; calls = 0; faults = 0 }) }
     {
