@@ -9,7 +9,7 @@ ghost use Rattle.branch_expr.specs.Images.{IsMember, HasJust, Gains, Loses, HasP
 
 use crate::axis::Axis;
 use crate::mirror::Mirror;
-use crate::runs::{end_of_run, note_passing};
+use crate::runs::{RUN, end_of_run, note_passing};
 use label_graph::Digraph;
 use path_automaton::{Program, State, search};
 use px_base::{Bits, Memory};

@@ -4,7 +4,7 @@ ghost use Rattle.graph_spec.specs.Members.{has};
 ghost use Rattle.path_automaton.specs.NewMarks.{Passes};
 ghost use Rattle.branch_expr.specs.Images.{IsMember, HasJust, Gains, Keeps, Loses};
 
-use crate::runs::{end_of_run, is_passing, note_members, note_passing};
+use crate::runs::{RUN, end_of_run, is_passing, note_members, note_passing};
 use label_graph::Digraph;
 use px_base::{Bits, Memory, NodeId};
 use std::alloc::Global;
