@@ -1,5 +1,5 @@
 -- Sets before and after a call, and what a relation leads to from a set.
-use Rattle.std.specs.Prelude.{ℕ, ◌↔◌, ◌⊎◌, Bool, List, IsTrue}
+use Rattle.std.specs.Prelude.{ℕ, ◌↔◌, Bool, List, IsTrue}
 use Rattle.graph_spec.specs.Members.{has}
 
 -- the number is in the set
@@ -9,10 +9,6 @@ IsMember set v = IsTrue (has set v)
 -- the set has just the numbers of the kind
 abbrev pub HasJust : List ℕ → (ℕ → Type 0) → Type 0
 HasJust set P = (v : ℕ) → IsTrue (has set v) ↔ P v
-
--- just the numbers of the kind are put in
-abbrev pub Gains : List ℕ → List ℕ → (ℕ → Type 0) → Type 0
-Gains old new P = (v : ℕ) → IsTrue (has new v) ↔ (IsTrue (has old v) ⊎ P v)
 
 -- just the members of the kind stay
 abbrev pub Keeps : List ℕ → List ℕ → (ℕ → Type 0) → Type 0

@@ -1,11 +1,11 @@
 // Where a set of nodes leads along an axis.
 ghost use Rattle.std.specs.Prelude.{◌≡◌, ℕ, IsTrue, IsSome, IfOk, OnOk};
 ghost use Rattle.graph_spec.specs.Members.{has};
-ghost use Rattle.path_automaton.specs.NewMarks.{Passes};
+ghost use Rattle.path_automaton.specs.NewMarks.{Gains, Passes};
 ghost use Rattle.branch_spec.specs.BranchAnswers.{Along, Reaches};
 ghost use Rattle.branch_expr.specs.Axes.{axis_of};
 ghost use Rattle.branch_expr.specs.EdgeAutomata.{descendant_states};
-ghost use Rattle.branch_expr.specs.Images.{IsMember, HasJust, Gains, Loses, HasParent, Image};
+ghost use Rattle.branch_expr.specs.Images.{IsMember, HasJust, Loses, HasParent, Image};
 
 use crate::axis::Axis;
 use crate::mirror::Mirror;

@@ -1,7 +1,7 @@
 // Nodes whose label passes, taken by runs of numbers.
 ghost use Rattle.std.specs.Prelude.{◌≡◌, ◌+◌, ◌<◌, ◌≤◌, ◌↔◌, length, take, IsTrue, IsSome};
-ghost use Rattle.path_automaton.specs.NewMarks.{Passes};
-ghost use Rattle.branch_expr.specs.Images.{IsMember, HasJust, Gains};
+ghost use Rattle.path_automaton.specs.NewMarks.{Gains, Passes};
+ghost use Rattle.branch_expr.specs.Images.{IsMember, HasJust};
 
 use label_graph::Digraph;
 use path_automaton::has_label;

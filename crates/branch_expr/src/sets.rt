@@ -1,8 +1,8 @@
 // Sets of nodes from other sets, and from labels.
 ghost use Rattle.std.specs.Prelude.{◌≡◌, ◌<◌, ℕ, Some, IsTrue, IfOk, OnOk};
 ghost use Rattle.graph_spec.specs.Members.{has};
-ghost use Rattle.path_automaton.specs.NewMarks.{Passes};
-ghost use Rattle.branch_expr.specs.Images.{IsMember, HasJust, Gains, Keeps, Loses};
+ghost use Rattle.path_automaton.specs.NewMarks.{Gains, Passes};
+ghost use Rattle.branch_expr.specs.Images.{IsMember, HasJust, Keeps, Loses};
 
 use crate::runs::{RUN, end_of_run, is_passing, note_members, note_passing};
 use label_graph::Digraph;

@@ -6,7 +6,7 @@ use Rattle.std.proofs.lemmas.List.Folds.{list_any_at}
 use Rattle.std.proofs.lemmas.List.Sums.{sum_by-set}
 use Rattle.graph_spec.specs.Members.{has}
 use Rattle.path_automaton.specs.MarkRows.{IsSet, row_members}
-use Rattle.path_automaton.specs.NewMarks.{Gathers}
+use Rattle.path_automaton.specs.NewMarks.{Gathers, Gains}
 
 -- a number that stands there is in the list
 pub has_there : (xs : List ℕ) (i : ℕ) → i < length xs → has xs (get_or xs i 0) ≡ true
@@ -124,3 +124,34 @@ gathers_new m w v within new =
 -- a place that was
 pub gathers_old : (m : List Bool) (w : List ℕ) (v : ℕ) → get_or m v false ≡ true → Gathers (λ n. n ≡ v) m (set m v true) w w
 gathers_old m w v old = subst (λ x. Gathers (λ n. n ≡ v) m x w w) (sym (ap (set m v) (sym old) ∙ set-get_or m v false)) (gathers_none (λ n. n ≡ v) m w)
+
+-- what is put in first, and what is put in then
+pub gains_then : (P Q R : ℕ → Type 0) (xs ys zs : List ℕ) → ((v : ℕ) → R v → P v ⊎ Q v) → ((v : ℕ) → P v → R v) → ((v : ℕ) → Q v → R v)
+    → Gains xs ys P → Gains ys zs Q → Gains xs zs R
+gains_then P Q R xs ys zs cases first then a b v = (
+  λ h. elim ((b v).0 h) [
+    | inl mid ↦ elim ((a v).0 mid) [ inl old ↦ inl old | inr p ↦ inr (first v p) ]
+    | inr q ↦ inr (then v q)
+  ],
+  λ h. elim h [
+    | inl old ↦ (b v).1 (inl ((a v).1 (inl old)))
+    | inr r ↦ elim (cases v r) [ inl p ↦ (b v).1 (inl ((a v).1 (inr p))) | inr q ↦ (b v).1 (inr q) ]
+  ],
+)
+
+-- one more place is read
+pub take_there : (xs : List ℕ) (i v : ℕ) → i < length xs → (has (take i xs) v ≡ true) ⊎ (v ≡ get_or xs i 0) → has (take (i + 1) xs) v ≡ true
+take_there xs i v h e = subst (λ n. has (take n xs) v ≡ true) (sym (one_more i)) (there xs i v h e)
+  where
+    one_more : (i : ℕ) → i + 1 ≡ suc i
+    one_more i = omega arith
+
+    there : (xs : List ℕ) (i v : ℕ) → i < length xs → (has (take i xs) v ≡ true) ⊎ (v ≡ get_or xs i 0) → has (take (suc i) xs) v ≡ true
+    there [] i v h e = absurd (omega arith)
+    there (x ∷ xs) zero v h (inl none) = absurd (cc)
+    there (x ∷ xs) zero v h (inr same) = or_left (eqb v x) false (eq-eqb v x same)
+    there (x ∷ xs) (suc i) v h (inl e) = elim (or_cases (eqb v x) (has (take i xs) v) e) [
+      | inl same ↦ or_left (eqb v x) (has (take (suc i) xs) v) same
+      | inr old ↦ or_right (eqb v x) (has (take (suc i) xs) v) (there xs i v (omega arith) (inl old))
+    ]
+    there (x ∷ xs) (suc i) v h (inr same) = or_right (eqb v x) (has (take (suc i) xs) v) (there xs i v (omega arith) (inr same))

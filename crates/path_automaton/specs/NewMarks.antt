@@ -1,5 +1,5 @@
 -- How marks spread over places, and over pairs of a state and a place.
-use Rattle.std.specs.Prelude.{◌≡◌, ℕ, ◌+◌, ◌≤◌, ◌⊎◌, Bool, List, length, Option, None, Some, IsTrue, IsSome}
+use Rattle.std.specs.Prelude.{◌≡◌, ℕ, ◌+◌, ◌≤◌, ◌⊎◌, ◌↔◌, Bool, List, length, Option, None, Some, IsTrue, IsSome}
 use Rattle.graph_spec.specs.Members.{has}
 use Rattle.px_base.specs.BitSets.{BitSet}
 use Rattle.path_automaton.specs.ProductSteps.{leads, Succeeds}
@@ -63,6 +63,10 @@ AreMarked R after = (s v : ℕ) → R s v → IsMarked after.rows.items s v
 abbrev pub AddsOnly : (ℕ → Type 0) → BitSet → BitSet → Type 0
 AddsOnly P before after = (v : ℕ) → IsTrue (has after.members v) → IsTrue (has before.members v) ⊎ P v
 
+-- just the numbers of the kind are put in
+abbrev pub Gains : List ℕ → List ℕ → (ℕ → Type 0) → Type 0
+Gains old new P = (v : ℕ) → IsTrue (has new v) ↔ (IsTrue (has old v) ⊎ P v)
+
 -- the label passes: any one, or the one with the number
 abbrev pub Passes : (ℕ → Option ℕ) → Option ℕ → ℕ → Type 0
 Passes label_at None c = IsSome (label_at c)
@@ -75,6 +79,11 @@ Next size label_at edge test v c = IsTrue (leads size label_at edge v c) × Pass
 -- the node comes next to one of the places, and passes
 abbrev pub NextOf : ℕ → (ℕ → Option ℕ) → (ℕ → ℕ → Bool) → Option ℕ → List ℕ → ℕ → Type 0
 NextOf size label_at edge test places c = (v : ℕ) × IsTrue (has places v) × Next size label_at edge test v c
+
+-- what is read in a state: the label with the number, or any one
+abbrev pub reading : Option ℕ → ℕ → State
+reading None next = Any next
+reading (Some l) next = Label l next
 
 -- a node, or the place before all nodes
 abbrev pub IsPlace : ℕ → (ℕ → Option ℕ) → ℕ → Type 0

@@ -32,7 +32,7 @@ fn push_more(found: &mut Vec<u32>, place: u32) -> Result<(), Memory>
 
 /// Puts a place behind the others.
 #[inline(always)]
-fn push(found: &mut Vec<u32>, place: u32) -> Result<(), Memory>
+pub(crate) fn push(found: &mut Vec<u32>, place: u32) -> Result<(), Memory>
     ensures items { OnOk result (found.new.items ≡ found.old.items ++ place ∷ []) }
 {
     if found.len() < found.capacity() {

@@ -1,13 +1,13 @@
 // The search of the product of an automaton and a graph.
-ghost use Rattle.std.specs.Prelude.{◌≡◌, ◌↔◌, ◌≤◌, ◌<◌, ◌+◌, ◌⊎◌, ℕ, false, length, IsTrue, IfOk, OnOk};
+ghost use Rattle.std.specs.Prelude.{◌≡◌, ◌↔◌, ◌≤◌, ◌<◌, ◌+◌, ◌⊎◌, ℕ, Some, false, length, IsTrue, IfOk, IfSome, OnOk};
 ghost use Rattle.std.specs.List.Sorted.{IsStrictlyIncreasing};
 ghost use Rattle.graph_spec.specs.Members.{has};
 ghost use Rattle.path_automaton.specs.Programs.{state_at, IsEnd};
 ghost use Rattle.path_automaton.specs.MarkRows.{row, IsMarked, HasRows};
-ghost use Rattle.path_automaton.specs.NewMarks.{Spreads, SpreadsAt, AreMarked, AddsOnly, Enters, EndsHere, IsNoFork};
+ghost use Rattle.path_automaton.specs.NewMarks.{Spreads, SpreadsAt, AreMarked, AddsOnly, Enters, EndsHere, IsNoFork, reading};
 ghost use Rattle.path_automaton.specs.Digraphs.{ArePlaces, AreEndsFrom, NextOfWithin, ArePlacesWithin, SucceedsWithin, EntersWithin, IsEnteredWithin, MarksWithin, AreEndsWithin};
 
-use crate::follow::follow;
+use crate::follow::{follow, follow_both};
 use crate::frontier::Frontier;
 use crate::program::Program;
 use crate::scope::{Everywhere, Inside, Scope};
@@ -47,6 +47,47 @@ fn advance<G: Digraph, S: Scope>(
         places,
     )?;
     frontier.worklist.push(state, found)?;
+    Ok(())
+}
+
+/// Marks two states at each node within that comes next to one of the places and whose label passes, each by its own test.
+/// What comes next to a place is read once.
+fn advance_both<G: Digraph, S: Scope>(
+    g: &G,
+    scope: &S,
+    frontier: &mut Frontier,
+    found: &mut Vec<u32>,
+    tests: (Option<u32>, Option<u32>),
+    states: (u32, u32),
+    places: &[u32],
+) -> Result<(), Memory>
+    requires first { states.0 < length frontier.old.rows.items }
+    requires second { states.1 < length frontier.old.rows.items }
+    requires places { ArePlacesWithin G.Digraph g.now (S.keeps scope.now) places.now }
+    requires first_wide { G.span g.now + 1 ≤ length (row frontier.old.rows.items states.0) }
+    requires second_wide { G.span g.now + 1 ≤ length (row frontier.old.rows.items states.1) }
+    ensures spreads { OnOk result (Spreads (λ s c. ((s ≡ states.0) × NextOfWithin G.Digraph g.now (S.keeps scope.now) tests.0 places.now c)
+        ⊎ ((s ≡ states.1) × NextOfWithin G.Digraph g.now (S.keeps scope.now) tests.1 places.now c)) frontier.old frontier.new) }
+    ensures first { OnOk result ((c : ℕ) → NextOfWithin G.Digraph g.now (S.keeps scope.now) tests.0 places.now c
+        → IsMarked frontier.new.rows.items states.0 c) }
+    ensures second { OnOk result ((c : ℕ) → NextOfWithin G.Digraph g.now (S.keeps scope.now) tests.1 places.now c
+        → IsMarked frontier.new.rows.items states.1 c) }
+{
+    found.clear();
+    let alloc = frontier.alloc;
+    let mut noted = Vec::new(alloc);
+    follow_both(
+        alloc,
+        g,
+        scope,
+        tests,
+        &mut frontier.rows[states.0 as usize],
+        found,
+        &mut noted,
+        places,
+    )?;
+    frontier.worklist.push(states.0, found)?;
+    frontier.mark_all(found, states.1, &noted)?;
     Ok(())
 }
 
@@ -111,8 +152,25 @@ fn enter<G: Digraph, S: Scope>(
     }
 }
 
-/// Enters both states from a fork.
-fn fork<G: Digraph, S: Scope>(
+/// The label that the state reads, or none where it reads any one, and the state that follows. A state that reads nothing has
+/// neither, nor has one that is marked where a fork enters it.
+fn read_from_fork(program: &Program, shared: &Bits, state: u32) -> Option<(Option<u32>, u32)>
+    requires { state < length program.now }
+    ensures reads { IfSome result (λ r. state_at program.now state ≡ Some (reading r.0 r.1)) }
+    ensures below { IfSome result (λ r. r.1 < length program.now) }
+{
+    if shared.contains(state) {
+        return None;
+    }
+    match program.state(state) {
+        State::Any(next) => Some((None, next)),
+        State::Label(label, next) => Some((Some(label), next)),
+        State::End | State::Stuck | State::Fork(_, _) => None,
+    }
+}
+
+/// Enters two states, one after the other.
+fn enter_each<G: Digraph, S: Scope>(
     g: &G,
     scope: &S,
     program: &Program,
@@ -132,6 +190,41 @@ fn fork<G: Digraph, S: Scope>(
 {
     enter(g, scope, program, frontier, found, states.0, places)?;
     enter(g, scope, program, frontier, found, states.1, places)
+}
+
+/// Enters both states from a fork. Where both read on at once, what comes next to a place is read once.
+fn fork<G: Digraph, S: Scope>(
+    g: &G,
+    scope: &S,
+    program: &Program,
+    frontier: &mut Frontier,
+    found: &mut Vec<u32>,
+    states: (u32, u32),
+    places: &[u32],
+) -> Result<(), Memory>
+    requires first { states.0 < length program.now }
+    requires second { states.1 < length program.now }
+    requires places { ArePlacesWithin G.Digraph g.now (S.keeps scope.now) places.now }
+    requires wide { HasRows (length program.now) (G.span g.now + 1) frontier.old.rows.items }
+    ensures spreads { OnOk result (Spreads (λ s c. EntersWithin G.Digraph g.now (S.keeps scope.now) program.now states.0 places.now s c
+        ⊎ EntersWithin G.Digraph g.now (S.keeps scope.now) program.now states.1 places.now s c) frontier.old frontier.new) }
+    ensures first { OnOk result (IsEnteredWithin G.Digraph g.now (S.keeps scope.now) program.now states.0 places.now frontier.new.rows.items) }
+    ensures second { OnOk result (IsEnteredWithin G.Digraph g.now (S.keeps scope.now) program.now states.1 places.now frontier.new.rows.items) }
+{
+    let first = read_from_fork(program, &frontier.shared, states.0);
+    let second = read_from_fork(program, &frontier.shared, states.1);
+    match (first, second) {
+        (Some((test, next)), Some((other, last))) => advance_both(
+            g,
+            scope,
+            frontier,
+            found,
+            (test, other),
+            (next, last),
+            places,
+        ),
+        _ => enter_each(g, scope, program, frontier, found, states, places),
+    }
 }
 
 /// Marks what succeeds the state, or what succeeds a state that it enters.
