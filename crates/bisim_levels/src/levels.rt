@@ -27,7 +27,7 @@ fn number_label(
 {
     if view.is_node(n) {
         let label = view.label(n);
-        let k = keys.intern(0, label, &[label])?;
+        let k = keys.intern_one(label)?;
         Ok(Some(k))
     } else {
         Ok(None)

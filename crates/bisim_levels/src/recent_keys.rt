@@ -1,5 +1,5 @@
 // A table of keys in which recent keys are found without a walk along a chain.
-ghost use Rattle.std.specs.Prelude.{◌≡◌, [], ℕ, List, IfOk, IsTrue, Some, slice_get};
+ghost use Rattle.std.specs.Prelude.{◌≡◌, ◌∷◌, [], ℕ, List, IfOk, IsTrue, Some, slice_get};
 ghost use Rattle.graph_spec.specs.Members.{at};
 ghost use Rattle.key_table.specs.NumberedKeys.{AreDistinct, Interns};
 ghost use Rattle.bisim_spec.specs.declared.sides.Sides.TheVariants as sided;
@@ -48,17 +48,32 @@ impl RecentKeys {
         self.table
     }
 
-    /// The number of a key, which is looked up in the cache by these two numbers first.
+    /// The number of the key of one number, which is looked up in the cache first.
     #[inline(always)]
-    pub(crate) fn intern(&mut self, a: u32, b: u32, key: &[u32]) -> Result<u32, Memory>
-        ensures ok { IfOk result (Interns self.old self.new key.now) }
+    pub(crate) fn intern_one(&mut self, a: u32) -> Result<u32, Memory>
+        ensures ok { IfOk result (Interns self.old self.new (a ∷ [])) }
         ensures distinct { IfOk result (λ k. AreDistinct self.new) }
     {
-        let neighbour_of = self.recent.get(a, b);
-        if is_at(&self.table, neighbour_of, key) {
-            return Ok(neighbour_of);
+        let known = self.recent.get(0, a);
+        if is_one_at(&self.table, known, a) {
+            return Ok(known);
         }
-        let k = self.table.intern(key)?;
+        let k = self.table.intern(&[a])?;
+        self.recent.put(0, a, k);
+        Ok(k)
+    }
+
+    /// The number of the key of two numbers, which is looked up in the cache first.
+    #[inline(always)]
+    pub(crate) fn intern_pair(&mut self, a: u32, b: u32) -> Result<u32, Memory>
+        ensures ok { IfOk result (Interns self.old self.new (a ∷ b ∷ [])) }
+        ensures distinct { IfOk result (λ k. AreDistinct self.new) }
+    {
+        let known = self.recent.get(a, b);
+        if is_pair_at(&self.table, known, a, b) {
+            return Ok(known);
+        }
+        let k = self.table.intern(&[a, b])?;
         self.recent.put(a, b, k);
         Ok(k)
     }
@@ -101,11 +116,36 @@ impl RecentKeys {
     }
 }
 
-// Whether the key has this number.
+// Whether the key is just this number.
 #[inline(always)]
-fn is_at(keys: &KeyTable, k: u32, key: &[u32]) -> bool
-    ensures at { IsTrue result → slice_get keys.now k ≡ Some key.now }
+fn is_one(key: &[u32], a: u32) -> bool
+    ensures { IsTrue result → key.now ≡ a ∷ [] }
+{
+    key.len() == 1 && key[0] == a
+}
+
+// Whether the key is just these two numbers.
+#[inline(always)]
+fn is_pair(key: &[u32], a: u32, b: u32) -> bool
+    ensures { IsTrue result → key.now ≡ a ∷ b ∷ [] }
+{
+    key.len() == 2 && key[0] == a && key[1] == b
+}
+
+// Whether the key with this number is just the number a.
+#[inline(always)]
+fn is_one_at(keys: &KeyTable, k: u32, a: u32) -> bool
+    ensures at { IsTrue result → slice_get keys.now k ≡ Some (a ∷ []) }
     ensures distinct { AreDistinct keys.now }
 {
-    k < keys.len() && keys.key(k) == key
+    k < keys.len() && is_one(keys.key(k), a)
+}
+
+// Whether the key with this number is just the numbers a and b.
+#[inline(always)]
+fn is_pair_at(keys: &KeyTable, k: u32, a: u32, b: u32) -> bool
+    ensures at { IsTrue result → slice_get keys.now k ≡ Some (a ∷ b ∷ []) }
+    ensures distinct { AreDistinct keys.now }
+{
+    k < keys.len() && is_pair(keys.key(k), a, b)
 }

@@ -48,7 +48,7 @@ fn find_parents_key(
     ensures distinct { IfOk result (λ k. AreDistinct keys.new) }
 {
     match single_block(base, parents) {
-        Some(around) => keys.intern(around, number, &[number, around]),
+        Some(around) => keys.intern_pair(number, around),
         None => keys.intern_written(base, parents, number),
     }
 }

@@ -8,5 +8,5 @@ pub returns-in-Some-clause-ok : goal.returns-in-Some-clause-ok
 returns-in-Some-clause-ok c =
     let only = c.in-Some.ensures in
     let key : List ℕ = c.args.number ∷ c.in-Some.around ∷ [] in
-    IfOk-weaker c.intern.result (Interns c.args.keys.now c.intern.new.self key) _
-    (λ k interned. (key, written_one _ _ only.0 _ _ only.1 only.2, interned)) c.intern.ensures.ok
+    IfOk-weaker c.intern_pair.result (Interns c.args.keys.now c.intern_pair.new.self key) _
+    (λ k interned. (key, written_one _ _ only.0 _ _ only.1 only.2, interned)) c.intern_pair.ensures.ok
