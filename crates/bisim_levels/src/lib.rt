@@ -10,4 +10,5 @@ mod refining;
 pub use keys::{block_of, single_block, write_key, write_sided_key};
 pub use levels::label_level;
 pub use neighbour_lists::neighbours;
+pub use recent_keys::RecentKeys;
 pub use refining::{Level, next_level};

@@ -12,9 +12,16 @@ use px_base::{Memory, NodeId, Recent};
 use std::alloc::Global;
 use std::marker::Model;
 
-/// A table of keys, which it is seen as, with a cache of the numbers of recent ones.
+/// A table of keys, which it is seen as, with a cache of the numbers of recent keys of one or two numbers. It takes what the
+/// table takes, and 16 KiB.
+///
+/// A key that comes again at once is found in the cache:
+///
+///     let mut keys = RecentKeys::new(alloc)?;
+///     let first = keys.intern_pair(3, 7)?;
+///     let again = keys.intern_pair(3, 7)?;
 #[derive(Drop)]
-pub(crate) struct RecentKeys {
+pub struct RecentKeys {
     table: KeyTable,
     recent: Recent,
     // Where a key is written before it is looked for.
@@ -30,8 +37,8 @@ impl Model for RecentKeys {
 }
 
 impl RecentKeys {
-    /// No keys.
-    pub(crate) fn new(alloc: Global) -> Result<RecentKeys, Memory>
+    /// No keys. O(1); it takes 16 KiB.
+    pub fn new(alloc: Global) -> Result<RecentKeys, Memory>
         ensures { IfOk result (λ k. k ≡ []) }
     {
         Ok(RecentKeys {
@@ -41,11 +48,33 @@ impl RecentKeys {
         })
     }
 
-    /// The table.
+    /// The table. O(1), no memory.
     pub(crate) fn into_table(self) -> KeyTable
         ensures { result ≡ self }
     {
         self.table
+    }
+
+    /// The table. O(1), no memory.
+    pub fn table(&self) -> &KeyTable
+        ensures { result.now ≡ self.now }
+    {
+        &self.table
+    }
+
+    /// Drops all keys. The memory is kept for keys to come. O(1), no memory.
+    pub fn clear(&mut self)
+        ensures { self.new ≡ [] }
+    {
+        self.table.clear();
+    }
+
+    /// The number of a key, as `KeyTable::intern` gives it.
+    pub fn intern(&mut self, key: &[u32]) -> Result<u32, Memory>
+        ensures ok { IfOk result (Interns self.old self.new key.now) }
+        ensures distinct { AreDistinct self.new }
+    {
+        self.table.intern(key)
     }
 
     /// The number of the key of one number, which is looked up in the cache first.
@@ -63,9 +92,10 @@ impl RecentKeys {
         Ok(k)
     }
 
-    /// The number of the key of two numbers, which is looked up in the cache first.
+    /// The number of the key of two numbers, which is looked up in the cache first. It costs no more than `intern`, and a few
+    /// steps where the key is at hand.
     #[inline(always)]
-    pub(crate) fn intern_pair(&mut self, a: u32, b: u32) -> Result<u32, Memory>
+    pub fn intern_pair(&mut self, a: u32, b: u32) -> Result<u32, Memory>
         ensures ok { IfOk result (Interns self.old self.new (a ∷ b ∷ [])) }
         ensures distinct { IfOk result (λ k. AreDistinct self.new) }
     {

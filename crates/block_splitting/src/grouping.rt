@@ -6,15 +6,15 @@ ghost use Rattle.label_graph.specs.GraphViews.{label_number};
 ghost use Rattle.block_splitting.specs.Groups.{AreReady, AreGrouped, NeighbourKey};
 
 use crate::keys::key_number;
+use bisim_levels::RecentKeys;
 use bisim_spec::Side;
 use block_partition::Blocks;
-use key_table::KeyTable;
 use label_graph::GraphView;
 use px_base::{Memory, NodeId};
 
 /// Writes for each of the nodes the number of its key.
 pub(crate) fn group_nodes(
-    keys: &mut KeyTable,
+    keys: &mut RecentKeys,
     key: &mut Vec<u32>,
     group: &mut Vec<u32>,
     view: &GraphView<'_>,

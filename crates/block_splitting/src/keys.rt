@@ -7,10 +7,9 @@ ghost use Rattle.key_table.specs.NumberedKeys.{AreDistinct, Interns};
 ghost use Rattle.bisim_spec.specs.NodeKeys.{IsWritten};
 ghost use Rattle.block_splitting.specs.Groups.{NeighbourKey, InternsSome};
 
-use bisim_levels::{neighbours, write_key};
+use bisim_levels::{RecentKeys, neighbours, write_key};
 use bisim_spec::Side;
 use block_partition::Blocks;
-use key_table::KeyTable;
 use label_graph::GraphView;
 use px_base::{Memory, NodeId};
 
@@ -30,7 +29,7 @@ fn single_block(blocks: &Blocks, nodes: &[NodeId]) -> Option<u32>
 // nodes have one neighbour on a side, and their keys are neither gathered nor sorted.
 #[inline(always)]
 fn find_key(
-    keys: &mut KeyTable,
+    keys: &mut RecentKeys,
     key: &mut Vec<u32>,
     blocks: &Blocks,
     nodes: &[NodeId],
@@ -40,7 +39,7 @@ fn find_key(
     ensures distinct { IfOk result (λ k. AreDistinct keys.new) }
 {
     if let Some(around) = single_block(blocks, nodes) {
-        return keys.intern(&[number, around]);
+        return keys.intern_pair(number, around);
     }
     write_key(key, nodes, number, |m| blocks.block_of(m))?;
     keys.intern(key)
@@ -49,7 +48,7 @@ fn find_key(
 /// The number of a node's key: its own block, and then the blocks of its neighbours on a side, rising,
 /// each once.
 pub(crate) fn key_number(
-    keys: &mut KeyTable,
+    keys: &mut RecentKeys,
     key: &mut Vec<u32>,
     view: &GraphView<'_>,
     side: Side,

@@ -10,9 +10,9 @@ ghost use Rattle.block_splitting.specs.Splits.{IsSplit, HasMore, AreLabelled, Ar
 use crate::grouping::group_nodes;
 use crate::nodes::NodeSet;
 use crate::parting::part;
+use bisim_levels::RecentKeys;
 use bisim_spec::Side;
 use block_partition::Blocks;
-use key_table::KeyTable;
 use label_graph::GraphView;
 use px_base::{Memory, NodeId};
 use std::alloc::Global;
@@ -27,7 +27,7 @@ use std::alloc::Global;
 ///     let moved = split(alloc, &view, Side::Parents, &mut blocks, &active_nodes, &mut tables)?;
 #[derive(Drop)]
 pub struct Tables {
-    pub(crate) keys: KeyTable,
+    pub(crate) keys: RecentKeys,
     pub(crate) key: Vec<u32>,
     pub(crate) group: Vec<u32>,
     pub(crate) retained: Vec<u32>,
@@ -39,7 +39,7 @@ impl Tables {
         ensures { IfOk result (λ t. vec_len t.group ≡ size) }
     {
         Ok(Tables {
-            keys: KeyTable::new(alloc)?,
+            keys: RecentKeys::new(alloc)?,
             key: Vec::new(alloc),
             group: vec![in alloc; 0; size as usize]?,
             retained: Vec::new(alloc),
@@ -83,6 +83,6 @@ pub fn split(
     } = tables;
     keys.clear();
     group_nodes(keys, key, group, view, side, blocks, nodes)?;
-    let moved = part(alloc, blocks, active_nodes, keys, group, retained)?;
+    let moved = part(alloc, blocks, active_nodes, keys.table(), group, retained)?;
     Ok(moved)
 }
