@@ -18,9 +18,9 @@ returns-clause-spreads g c =
     let P = NextOf span label_at edge c.args.tests.0 c.args.places.now in
     let Q = NextOf span label_at edge c.args.tests.1 c.args.places.now in
     let first = spreads_found P c.args.frontier.now.rows.items c.args.frontier.now.worklist c.push.new.self c.args.states.0
-        c.index_mut.result.now c.follow_both.new.row c.clear.new.self.items c.follow_both.new.found.items c.deref.result.now c.requires.first
-        (get_or_read c.args.frontier.now.rows.items c.args.states.0 _ c.requires.first c.index_mut.ensures.value []) c.clear.ensures.items c.deref.ensures.value
-        c.in_ok-follow_both.ensures.gathers c.in_ok-push.ensures in
+    c.index_mut.result.now c.follow_both.new.row c.clear.new.self.items c.follow_both.new.found.items c.deref.result.now c.requires.first
+    (get_or_read c.args.frontier.now.rows.items c.args.states.0 _ c.requires.first c.index_mut.ensures.value []) c.clear.ensures.items c.deref.ensures.value
+    c.in_ok-follow_both.ensures.gathers c.in_ok-push.ensures in
     let second = c.in_ok-mark_all.ensures.spreads in
     spreads_then _ _ _ _ _ _ _ (spreads_as _ _ _ _ _ _ (λ s v h. inl h) first)
     (spreads_as _ _ _ _ _ _ (λ s v h. inr (h.0, of_kind Q _ _ c.new-noted.ensures.items c.in_ok-follow_both.ensures.noted v (subst (λ l. IsTrue (has l v)) c.deref-2.ensures.value h.1))) second)
