@@ -19,7 +19,7 @@ abbrev pub is_in_below : ℕ → List ℕ → Option ℕ → Bool
 is_in_below from blocks None = false
 is_in_below from blocks (Some b) = nat_lt b from && has blocks b
 
-not_below : (x n : ℕ) → n ≤ x → nat_lt x n ≡ false
+pub not_below : (x n : ℕ) → n ≤ x → nat_lt x n ≡ false
 not_below x n h = grind (arith, nat_tests)
 
 pub below_none : (blocks : List ℕ) (o : Option ℕ) → is_in_below 0 blocks o ≡ false

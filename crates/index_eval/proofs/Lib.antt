@@ -7,4 +7,5 @@ pub mod Mapped
 pub mod BlockAnswers
 pub mod Exact
 pub mod Gathered
+pub mod MemberCounts
 pub mod Examples

@@ -1,5 +1,5 @@
 -- What the members of blocks of an index are for a graph, whatever graph the index fits.
-use Rattle.std.specs.Prelude.{ℕ, ◌≡◌, Bool, true, false, List, IsTrue}
+use Rattle.std.specs.Prelude.{ℕ, ◌≡◌, Bool, true, false, List, length, IsTrue}
 use Rattle.graph_spec.specs.Graphs.{Graph, IsGraph}
 use Rattle.graph_spec.specs.Shapes.{shape_of}
 use Rattle.graph_spec.specs.Members.{has}
@@ -33,3 +33,16 @@ module _ (texts : List (List ℕ)) (v : View) (q : Query) (unrelaxed : Bool) whe
   abbrev pub AreAnswersOfEach : List ℕ → Type 0
   AreAnswersOfEach nodes = (g : Graph) (via : Via) → IsGraph g → g.seen ≡ texts → FitsVia via g v → IsExact via q → unrelaxed ≡ true
       → AreQueryAnswers (shape_of g) q nodes
+
+-- The relaxed form has so many candidates: that many nodes are in the blocks that answer it over the index graph.
+pub record IsCandidateCount (texts : List (List ℕ)) (v : View) (q : Query) (count : ℕ) : Type 0 where
+  -- the candidates
+  pub nodes : List ℕ
+  -- they are the members of the blocks that answer
+  pub members : AreOfAnsweringBlocks texts v q false nodes
+  -- they are the candidates by any relation with which the partition agrees
+  pub candidates : AreCandidatesOfEach texts v q false nodes
+  -- each answer of the graph is among them
+  pub kept : HaveAnswersOfEach texts v q false nodes
+  -- the count says how many they are
+  pub count_is : count ≡ length nodes

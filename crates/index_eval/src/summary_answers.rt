@@ -1,5 +1,5 @@
 // The candidates of a query through an index.
-ghost use Rattle.std.specs.Prelude.{◌≡◌, ◌<◌, ◌||◌, ℕ, length, Some, IsSome, IsTrue, IfOk};
+ghost use Rattle.std.specs.Prelude.{◌≡◌, ◌<◌, ◌||◌, ℕ, length, Some, IsSome, IsTrue, IfOk, count_by};
 ghost use Rattle.std.specs.List.Sorted.{IsStrictlyIncreasing};
 ghost use Rattle.graph_spec.specs.Members.{has, at};
 ghost use Rattle.block_partition.specs.LabelledPartitions.{is_member};
@@ -7,7 +7,7 @@ ghost use Rattle.bisim_spec.specs.IndexGraphs.{shape_of_view};
 ghost use Rattle.quotient.specs.Quotients.{view_of};
 ghost use Rattle.branch_query.specs.Queries.{query_of, searched_form, AreQueryAnswers};
 ghost use Rattle.index_eval.specs.Extents.{is_in_blocks};
-ghost use Rattle.index_eval.specs.Candidates.{AreOfAnsweringBlocks, AreCandidatesOfEach, HaveAnswersOfEach, AreAnswersOfEach};
+ghost use Rattle.index_eval.specs.Candidates.{AreOfAnsweringBlocks, AreCandidatesOfEach, HaveAnswersOfEach, AreAnswersOfEach, IsCandidateCount};
 
 use branch_query::Query;
 use label_graph::Labels;
@@ -67,6 +67,22 @@ fn extents(alloc: Global, summary: &Summary, blocks: &Bits) -> Result<Bits, Memo
     Ok(set)
 }
 
+/// How many members the blocks have in all.
+fn count_members(summary: &Summary, blocks: &Bits) -> u32
+    requires live { (b : ℕ) → IsTrue (has blocks.now.members b) → IsSome (at summary.now.blocks.labels b) }
+    ensures { result ≡ count_by (is_in_blocks blocks.now.members) summary.now.blocks.block_of }
+{
+    // Called for their contracts: the blocks are below the size, and there are at most 2^31 members.
+    let _known = (blocks.size(), summary.numbers());
+    let mut count = 0;
+    let mut from = 0;
+    while let Some(b) = blocks.next_from(from) {
+        count += summary.member_count(b);
+        from = b + 1;
+    }
+    count
+}
+
 /// The nodes of the blocks that answer the query over the index graph: the query itself where `unrelaxed` is true, else its
 /// relaxed form. They are a set of numbers below `summary.numbers()`. Where `is_exact` says that the index is exact for the
 /// query, and `unrelaxed` is true, they are the answers of the graph. Where `unrelaxed` is false, all answers of the graph are
@@ -91,4 +107,23 @@ pub fn candidates(
 {
     let blocks = answering_blocks(alloc, summary, labels, q, unrelaxed)?;
     extents(alloc, summary, &blocks)
+}
+
+/// How many nodes `candidates` gives where `unrelaxed` is false, without the set of them: how many are in the blocks that
+/// answer the relaxed form over the index graph. All answers of the graph are among these nodes, whatever the index.
+///
+/// It sees no graph. `Memory` comes only where memory runs out. O(m (b + p)) for m tokens, b numbers of blocks and
+/// p pairs of blocks with support, beside the look-ups of the labels; it takes what `Query::answers` takes over the index
+/// graph.
+pub fn candidate_count(
+    alloc: Global,
+    summary: &Summary,
+    labels: &Labels,
+    q: &Query<'_>,
+) -> Result<u32, Memory>
+    requires labelled { (b l : ℕ) → at summary.now.blocks.labels b ≡ Some l → l < length labels.now.texts }
+    ensures { IfOk result (λ count. IsCandidateCount labels.now.texts (view_of summary.now) (query_of q.now) count) }
+{
+    let blocks = answering_blocks(alloc, summary, labels, q, false)?;
+    Ok(count_members(summary, &blocks))
 }

@@ -13,7 +13,7 @@ ghost use Rattle.branch_query.specs.Queries.{query_of, AreQueryAnswers};
 ghost use Rattle.index_eval.specs.Exactness.{FitsVia, IsExact};
 ghost use Rattle.extent_report.specs.Summaries.{LabelsHaveTexts};
 ghost use Rattle.pathindex_core.specs.Engines.{EachBecomes, IsKeptFor, open_seen, opened_by};
-ghost use Rattle.pathindex_core.specs.QueryAnswers.{IsFoundBy, IsAnswered, IsQueried};
+ghost use Rattle.pathindex_core.specs.QueryAnswers.{IsFoundBy, IsAnswered, IsQueried, HasNoAnswers};
 ghost use Rattle.pathindex_core.specs.Boxes.{IsFbComputed};
 
 use crate::errors::AskError;
@@ -22,9 +22,9 @@ use crate::views::{refresh_for, summary_of};
 use branch_query::Query;
 use data_validate::check;
 use index_api::{Answer, How, PathIndex, Via};
-use index_eval::{candidates, is_exact};
+use index_eval::{candidate_count, candidates, is_exact};
 use label_graph::Graph;
-use px_base::{Memory, Steps};
+use px_base::{Bits, Memory, Steps};
 use quotient::Summary;
 use std::alloc::Global;
 use std::sync::ledger::Ledger;
@@ -48,7 +48,26 @@ fn ask_graph<L: Ledger>(
     })
 }
 
-/// Asks an index by its view: the candidates are the answers, or are looked up in the graph.
+/// The answers of the graph. Where an index gives no candidates, there are none, and nothing is asked.
+fn checked_answers<L: Ledger>(
+    alloc: Global,
+    graph: &Graph,
+    query: &Query<'_>,
+    candidates: u32,
+    steps: &mut Steps<L>,
+) -> Result<Bits, Memory>
+    requires candidates { candidates ≡ 0 → HasNoAnswers graph.now.graph (query_of query.now) }
+    ensures answers { IfOk result (λ nodes. AreQueryAnswers (shape_of graph.now.graph) (query_of query.now) nodes.members) }
+{
+    if candidates == 0 {
+        return Bits::new(alloc, 0);
+    }
+    let view = graph.view(steps);
+    query.answers(alloc, &view, graph.labels())
+}
+
+/// Asks an index by its view: the candidates are the answers, or are looked up in the graph. Of a branching query the
+/// graph alone is asked then, since all its answers are among the candidates, and these are only counted.
 fn ask_view<L: Ledger>(
     alloc: Global,
     graph: &Graph,
@@ -66,15 +85,24 @@ fn ask_view<L: Ledger>(
     ensures cost { IsExact via (query_of query.now) → steps.new ≡ steps.old }
     ensures graph { IfOk result (λ _. IsGraph graph.now.graph) }
 {
-    let unrelaxed = is_exact(via, query);
-    let set = candidates(alloc, summary, graph.labels(), query, unrelaxed)?;
-    let count = set.count();
-    if unrelaxed {
+    if is_exact(via, query) {
+        let nodes = candidates(alloc, summary, graph.labels(), query, true)?;
+        let count = nodes.count();
         return Ok(Answer {
-            nodes: set,
+            nodes,
             how: How::Exact(count),
         });
     }
+    if matches!(*query, Query::Branch(_)) {
+        let count = candidate_count(alloc, summary, graph.labels(), query)?;
+        let nodes = checked_answers(alloc, graph, query, count, steps)?;
+        return Ok(Answer {
+            nodes,
+            how: How::Checked(count),
+        });
+    }
+    let set = candidates(alloc, summary, graph.labels(), query, false)?;
+    let count = set.count();
     let nodes = check(alloc, graph, query, &set, steps)?;
     Ok(Answer {
         nodes,
