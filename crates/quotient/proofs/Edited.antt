@@ -12,7 +12,7 @@ use Rattle.quotient.specs.QuotientTables.{KeptPairs, KeptLists, IsWritten}
 use Rattle.quotient.proofs.Looked.{same, same_is, test_is}
 use Rattle.quotient.proofs.Taken.{support_written}
 
-some_within : (xs : List (Option ℕ)) (n : ℕ) → IsSome (at xs n) → n < length xs
+pub some_within : (xs : List (Option ℕ)) (n : ℕ) → IsSome (at xs n) → n < length xs
 some_within xs n h = elim (cases_lt n (length xs)) [ inl l ↦ l | inr past ↦ absurd (true≢false (sym h ∙ ap is_some (get_or_past xs n None past))) ]
 
 put_below : (xs : List (Option ℕ)) (n v : ℕ) → n < length xs → put xs n v ≡ slice_set xs n (Some v)

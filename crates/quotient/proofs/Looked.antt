@@ -1,8 +1,10 @@
 -- A table of supports as its entries, which a hash finds.
-use Rattle.std.proofs.Common.{◌≡◌, ◌≢◌, ℕ, zero, suc, ◌+◌, ◌⊎◌, List, [], ◌∷◌, Option, Some, None, refl, sym, ◌∙◌, ap, arith, inl, inr, true, false, true≢false, not, Bool, cond, ◌&&◌, unwrap_or, length, slice_get}
+use Rattle.std.proofs.Common.{◌≡◌, ◌≢◌, ℕ, zero, suc, ◌+◌, ◌⊎◌, List, [], ◌∷◌, ◌++◌, ◌<◌, take, get_or, Option, Some, None, refl, sym, ◌∙◌, ap, arith, inl, inr, true, false, true≢false, not, Bool, cond, ◌&&◌, unwrap_or, length, slice_get}
 use Rattle.std.specs.Prelude.{nat_eq, nat_lt, is_some}
 use Rattle.std.specs.List.{IsDistinct, AllByRecursion, position_or_len}
 use Rattle.std.proofs.lemmas.Map.Keys.{IsDistinct-head, IsDistinct-tail}
+use Rattle.std.proofs.lemmas.List.{take_more}
+use Rattle.std.proofs.lemmas.Option.{slice_get_within, get_or_from_slice_get}
 use Rattle.std.specs.Ordering.{nat_cmp, eq_by_cmp, is_eq}
 use Rattle.std.specs.Map.{lookup, keys_of}
 use Rattle.std.specs.FinMap as map
@@ -143,7 +145,32 @@ positive_with t a b n h p e = elim (test_is (same p (a, b))) [
   | inr d ↦ h p (sym (got t (a, b) (n + 1) p ∙ rw d refl) ∙ e)
 ]
 
+-- an entry of a table whose keys differ is no entry before it
+key_apart : (es : List ((ℕ × ℕ) × ℕ)) (j : ℕ) (q k : ℕ × ℕ) (v : ℕ) → AllByRecursion (λ p. same q p ≡ false) (keys_of es) → slice_get es j ≡ Some (k, v) → same q k ≡ false
+key_apart [] j q k v h at = absurd cc
+key_apart (e ∷ es) zero q k v h at = ap (same q) (key_of e (k, v) at) ∙ h.0
+  where
+    key_of : (x y : (ℕ × ℕ) × ℕ) → Some x ≡ Some y → y.0 ≡ x.0
+    key_of x y h = cc
+key_apart (e ∷ es) (suc j) q k v h at = key_apart es j q k v h.1 at
+
+pub none_before : (es : List ((ℕ × ℕ) × ℕ)) (i : ℕ) (k : ℕ × ℕ) (v : ℕ) → IsDistinct same (keys_of es) → slice_get es i ≡ Some (k, v) → lookup (same k) (take i es) ≡ None
+none_before es zero k v d at = refl
+none_before [] (suc i) k v d at = refl
+none_before (e ∷ es) (suc i) k v d at =
+    let apart : same k e.0 ≡ false = same_sym k e.0 ∙ key_apart es i e.0 k v (IsDistinct-head same e.0 (keys_of es) d) at in
+    rw apart (none_before es i k v (IsDistinct-tail same e.0 (keys_of es) d) at)
+
+-- one entry more
+pub entries_more : (es : List ((ℕ × ℕ) × ℕ)) (i : ℕ) (k : ℕ × ℕ) (v : ℕ) → IsDistinct same (keys_of es) → slice_get es i ≡ Some (k, v)
+    → map.from_entries {R = edge_cmp} (take (i + 1) es) ≡ map.insert (map.from_entries (take i es)) k v
+entries_more es i k v d at =
+    let within = slice_get_within es i (k, v) at in
+    let here : get_or es i (k, v) ≡ (k, v) = get_or_from_slice_get es i (k, v) (k, v) at in
+    ap map.from_entries (take_more es i (k, v) within ∙ ap (λ (e : (ℕ × ℕ) × ℕ). take i es ++ e ∷ []) here)
+    ∙ map.from_entries_push edge_cmp_total edge_cmp-IsAntisymmetric (take i es) k v (find_lookup (take i es) k ∙ none_before es i k v d at)
+
 -- a pair in the table has edges
-pub supported_not_zero : (t : SupportTable) (a b n : ℕ) → IsPositive t → Some n ≡ map.get t (a, b) → false ≡ nat_eq (support_at t a b) 0
-supported_not_zero t a b zero h e = absurd (h (a, b) (sym e))
-supported_not_zero t a b (suc n) h e = let apart : false ≡ nat_eq (suc n) 0 = grind (arith, nat_tests) in apart ∙ ap (λ o. nat_eq (unwrap_or o 0) 0) e
+pub some_entry : (t : SupportTable) (k : ℕ × ℕ) (n : ℕ) → IsPositive t → map.get t k ≡ Some n → 0 < n
+some_entry t k zero h e = absurd (h k e)
+some_entry t k (suc n) h e = omega arith

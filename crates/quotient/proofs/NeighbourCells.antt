@@ -1,12 +1,12 @@
 -- Lists of neighbours of which one is written among the cells.
-use Rattle.std.proofs.Common.{◌≡◌, ◌≢◌, ℕ, zero, suc, ◌<◌, ◌≤◌, List, [], ◌∷◌, ◌++◌, Some, length, refl, sym, ap, ◌∙◌, subst, arith, get_or, set, ◌⊎◌, inl, inr, map as map_list}
+use Rattle.std.proofs.Common.{◌≡◌, ◌≢◌, ℕ, zero, suc, ◌+◌, ◌<◌, ◌≤◌, List, [], ◌∷◌, ◌++◌, Some, length, refl, sym, ap, ◌∙◌, subst, arith, get_or, set, ◌⊎◌, inl, inr, map as map_list}
 use Rattle.std.specs.Prelude.{slice_get, slice_index, swap_remove}
 use Rattle.std.specs.List.Sorted.{IsPermutation}
 use Rattle.std.proofs.lemmas.List.{map-set, set-get_or}
 use Rattle.std.proofs.lemmas.Option.{slice_get-get_or, slice_get_within}
 use Rattle.cell_lists.specs.declared.segment.Segment.{Segment}
-use Rattle.cell_lists.specs.Segments.{items_in, LiesWithin, IsApart, Writes}
-use Rattle.cell_lists.proofs.SegmentLemmas.{items-length, items-none, turned}
+use Rattle.cell_lists.specs.Segments.{items_in, LiesWithin, IsApart, Begins, Writes}
+use Rattle.cell_lists.proofs.SegmentLemmas.{items-length, items-none, items-more, longer, turned}
 use Rattle.quotient.specs.NeighbourCells.{AreHeld, spare_in}
 use Rattle.quotient.specs.QuotientNeighbours.{list_at}
 use Rattle.quotient.specs.QuotientTables.{GivesMore}
@@ -107,6 +107,15 @@ pushed-one [] e (suc i) u h = inl h
 pushed-one (x ∷ xs) e zero u h = inl h
 pushed-one (x ∷ xs) e (suc i) u h = pushed-one xs e i u h
 
+pushed-at : (ss : List Segment) (e : Segment) (i : ℕ) (u : Segment) → slice_get (ss ++ e ∷ []) i ≡ Some u → (slice_get ss i ≡ Some u) ⊎ ((i ≡ length ss) × (u ≡ e))
+pushed-at [] e zero u h = inr (refl, sym (only e u h))
+pushed-at [] e (suc i) u h = inl h
+pushed-at (x ∷ xs) e zero u h = inl h
+pushed-at (x ∷ xs) e (suc i) u h = elim (pushed-at xs e i u h) [
+  | inl f ↦ inl f
+  | inr g ↦ inr (ap suc g.0, g.1)
+]
+
 pub lists-behind : (cells : List ℕ) (ss : List Segment) (e : Segment) → e.len ≡ 0 → map_list (items_in cells) (ss ++ e ∷ []) ≡ map_list (items_in cells) ss ++ [] ∷ []
 lists-behind cells [] e none = ap (λ l. l ∷ []) (items-none cells e none)
 lists-behind cells (x ∷ xs) e none = ap (λ l. items_in cells x ∷ l) (lists-behind cells xs e none)
@@ -137,3 +146,35 @@ module _ (cells : List ℕ) (ss : List Segment) (e : Segment) (short : e.reserve
     within = λ i u f. within-push i u (pushed-one ss e i u f);
     apart = λ i j u v ne f g. apart-push i j u v ne (pushed-one ss e i u f) (pushed-one ss e j v g);
   }
+
+-- cells are put behind
+module _ (cells new : List ℕ) (ss : List Segment) (more : Begins cells new) (h : AreHeld cells ss) where
+  within-longer : (i : ℕ) (u : Segment) → slice_get ss i ≡ Some u → LiesWithin (length new) u
+  within-longer i u f = let w = h.within i u f in record { fits = w.fits; ends = λ l. omega (arith, w.ends l, longer cells new more) }
+
+  pub held-longer : AreHeld new ss
+  held-longer = record { within = within-longer; apart = h.apart }
+
+  pub lists-longer : map_list (items_in new) ss ≡ map_list (items_in cells) ss
+  lists-longer = same-map (items_in new) (items_in cells) ss (λ m u f. items-more cells new u more (h.within m u f))
+
+  -- and a list that takes them
+  module _ (e : Segment) (first : e.first ≡ length cells) (none : e.len ≡ 0) (ends : e.first + e.reserved ≤ length new) where
+    within-behind : (i : ℕ) (u : Segment) → (slice_get ss i ≡ Some u) ⊎ (u ≡ e) → LiesWithin (length new) u
+    within-behind i u (inl f) = within-longer i u f
+    within-behind i u (inr f) = subst (LiesWithin (length new)) (sym f) (record { fits = omega (arith, none); ends = λ l. ends })
+
+    before : (i : ℕ) (u : Segment) → slice_get ss i ≡ Some u → IsApart u e
+    before i u f long other = inl (let w = (h.within i u f).ends long in omega (arith, w, first))
+
+    apart-behind : (i j : ℕ) (u v : Segment) → i ≢ j → (slice_get ss i ≡ Some u) ⊎ ((i ≡ length ss) × (u ≡ e)) → (slice_get ss j ≡ Some v) ⊎ ((j ≡ length ss) × (v ≡ e)) → IsApart u v
+    apart-behind i j u v ne (inl f) (inl g) = h.apart i j u v ne f g
+    apart-behind i j u v ne (inl f) (inr g) = subst (IsApart u) (sym g.1) (before i u f)
+    apart-behind i j u v ne (inr f) (inl g) = subst (λ x. IsApart x v) (sym f.1) (turned v e (before j v g))
+    apart-behind i j u v ne (inr f) (inr g) = absurd (ne (f.0 ∙ sym g.0))
+
+    pub held-behind : AreHeld new (ss ++ e ∷ [])
+    held-behind = record {
+      within = λ i u f. within-behind i u (pushed-one ss e i u f);
+      apart = λ i j u v ne f g. apart-behind i j u v ne (pushed-at ss e i u f) (pushed-at ss e j v g);
+    }

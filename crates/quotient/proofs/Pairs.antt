@@ -2,8 +2,8 @@
 use Rattle.std.proofs.Common.{◌≡◌, ℕ, zero, suc, ◌<◌, List, [], ◌∷◌, ◌++◌, refl, sym, ◌∙◌, ap, length, get_or, map as map_list}
 use Rattle.std.proofs.Math.ListN.{replicate}
 use Rattle.std.proofs.lemmas.Option.{slice_get-map, slice_get-get_or, get_or_from_slice_get}
-use Rattle.std.specs.Prelude.{option_map, Some, None, slice_get}
-use Rattle.quotient.specs.QuotientNeighbours.{pairs_with, AreBelow, list_at}
+use Rattle.std.specs.Prelude.{option_map, Some}
+use Rattle.quotient.specs.QuotientNeighbours.{pairs_with, list_at}
 
 -- the list that a value of a table of lists gives
 pub item_at : {X : Type 0} (f : X → List ℕ) (xs : List X) (n : ℕ) (v : X) → n < length xs → v ≡ get_or xs n v → list_at (map_list f xs) n ≡ f v
@@ -25,6 +25,3 @@ replicate_more (suc len) = ap (λ (t : List (List ℕ)). none_list ∷ t) (repli
 -- no pairs wait
 pub no_pairs : (pairs : List (ℕ × ℕ)) (x y : ℕ) → pairs ≡ [] → pairs_with pairs x y ≡ 0
 no_pairs pairs x y e = ap (λ ps. pairs_with ps x y) e
-
-pub none_below : (n : ℕ) (pairs : List (ℕ × ℕ)) → pairs ≡ [] → AreBelow n pairs
-none_below n pairs e = λ i p at. absurd (let none : slice_get pairs i ≡ None = ap (λ (ps : List (ℕ × ℕ)). slice_get ps i) e in cc)

@@ -1,5 +1,5 @@
 -- The lists of neighbours of blocks.
-use Rattle.std.specs.Prelude.{◌≡◌, ◌≢◌, ℕ, ◌+◌, ◌<◌, ◌≤◌, ◌^◌, ◌&&◌, Bool, List, [], Option, Some, IsSome, length, cond, nat_eq, nat_lt, slice_get, slice_index_or, count_by}
+use Rattle.std.specs.Prelude.{◌≡◌, ◌≢◌, ℕ, ◌+◌, ◌<◌, ◌≤◌, ◌^◌, ◌&&◌, Bool, List, [], Option, Some, IsSome, length, cond, nat_eq, nat_lt, slice_index_or, count_by}
 use Rattle.std.specs.FinMap as table
 use Rattle.std.specs.FinSet as set
 use Rattle.graph_spec.specs.Graphs.{Edges}
@@ -40,9 +40,9 @@ pairs_between block n children x y = count_by (joins block x y) (edges_from n ch
 abbrev pub pairs_with : List (ℕ × ℕ) → ℕ → ℕ → ℕ
 pairs_with pairs x y = count_by (λ p. nat_eq x p.0 && nat_eq y p.1) pairs
 
--- the pairs are of numbers below this one
-abbrev pub AreBelow : ℕ → List (ℕ × ℕ) → Type 0
-AreBelow n pairs = (i : ℕ) (p : ℕ × ℕ) → slice_get pairs i ≡ Some p → (p.0 < n) × (p.1 < n)
+-- pairs with support are of numbers below this one
+abbrev pub ArePairsBelow : ℕ → SupportTable → Type 0
+ArePairsBelow n t = (a b : ℕ) → 0 < support_at t a b → (a < n) × (b < n)
 
 -- how many of the edges that begin before a node lead from x to y
 abbrev pub edges_below : Edges → List (Option ℕ) → ℕ → ℕ → ℕ → ℕ

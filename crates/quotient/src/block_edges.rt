@@ -1,14 +1,14 @@
 // Edges between blocks: how many there are, and which blocks they join.
-ghost use Rattle.std.specs.Prelude.{◌≡◌, ◌-◌, ◌<◌, ◌≤◌, ◌^◌, ℕ, IfOk, OnOk, length, slice_index};
-ghost use Rattle.std.specs.FinMap as table;
+ghost use Rattle.std.specs.Prelude.{◌≡◌, ◌-◌, ◌<◌, ◌≤◌, ℕ, IfOk, OnOk, length, slice_index};
 ghost use Rattle.bisim_spec.specs.IndexGraphs.{support_at};
-ghost use Rattle.quotient.specs.QuotientNeighbours.{AreNeighbourLists, list_at, RaisesPair};
+ghost use Rattle.quotient.specs.QuotientNeighbours.{AreLive, AreNeighbourLists, list_at};
 ghost use Rattle.quotient.specs.QuotientTables.{IsWritten};
 
 use crate::block_neighbours::BlockNeighbours;
 use crate::places::Place;
 use crate::supports::Supports;
-use px_base::{Memory, Recent};
+use block_partition::Blocks;
+use px_base::Memory;
 use std::alloc::Global;
 
 /// The supports, and the neighbours of each block by them.
@@ -20,44 +20,29 @@ pub(crate) struct BlockEdges {
 }
 
 impl BlockEdges {
-    /// No edges, between that many blocks, and capacity for that many pairs, whose places are noted if `is_noting`.
-    pub(crate) fn new(
+    /// The supports, and the neighbours by them. Each list gets just the cells that it needs, one behind another.
+    /// O(`span` + p) for p pairs.
+    pub(crate) fn of_supports(
         alloc: Global,
-        blocks: usize,
-        pairs: usize,
-        is_noting: bool,
+        blocks: &Blocks,
+        supports: Supports,
     ) -> Result<BlockEdges, Memory>
-        ensures supports { IfOk result (λ j. j.supports.pairs ≡ table.empty) }
+        requires live { AreLive blocks.now supports.pairs }
+        ensures supports { IfOk result (λ j. j.supports.pairs ≡ supports.pairs) }
         ensures neighbour_lists { IfOk result (λ j. AreNeighbourLists j.supports.pairs j.children.lists j.parents.lists) }
-        ensures children { IfOk result (λ j. length j.children.lists ≡ blocks) }
-        ensures parents { IfOk result (λ j. length j.parents.lists ≡ blocks) }
+        ensures children { IfOk result (λ j. length j.children.lists ≡ length blocks.now.labels) }
+        ensures parents { IfOk result (λ j. length j.parents.lists ≡ length blocks.now.labels) }
     {
+        let (from, onto) = supports.end_counts(alloc, blocks.span() as usize)?;
+        let mut supports = supports;
+        let mut children = BlockNeighbours::with_counts(alloc, &from)?;
+        let mut parents = BlockNeighbours::with_counts(alloc, &onto)?;
+        supports.list_neighbours(&mut children, &mut parents)?;
         Ok(BlockEdges {
-            supports: Supports::with_reserved(alloc, pairs, is_noting)?,
-            children: BlockNeighbours::new(alloc, blocks)?,
-            parents: BlockNeighbours::new(alloc, blocks)?,
+            supports,
+            children,
+            parents,
         })
-    }
-
-    /// Counts an edge from one block to another.
-    #[inline(always)]
-    pub(crate) fn count(&mut self, a: u32, b: u32, recent: &mut Recent) -> Result<(), Memory>
-        requires from { a < length self.old.children.lists }
-        requires onto { b < length self.old.parents.lists }
-        requires few { support_at self.old.supports.pairs a b < 2 ^ 32 - 1 }
-        requires neighbour_lists { AreNeighbourLists self.old.supports.pairs self.old.children.lists self.old.parents.lists }
-        ensures supports { OnOk result (RaisesPair a b (support_at self.old.supports.pairs) (support_at self.new.supports.pairs)) }
-        ensures neighbour_lists { OnOk result (AreNeighbourLists self.new.supports.pairs self.new.children.lists self.new.parents.lists) }
-        ensures children { OnOk result (length self.new.children.lists ≡ length self.old.children.lists) }
-        ensures parents { OnOk result (length self.new.parents.lists ≡ length self.old.parents.lists) }
-    {
-        if self.supports.raise(a, b, recent)? {
-            let place = Place::new(self.children.count(a), self.parents.count(b));
-            self.supports.push_place(place)?;
-            self.children.push(a, b)?;
-            self.parents.push(b, a)?;
-        }
-        Ok(())
     }
 
     /// Adds lists until there are some for at least that many block numbers.

@@ -36,18 +36,38 @@ impl Model for BlockNeighbours {
 }
 
 impl BlockNeighbours {
-    /// That many empty lists.
-    pub(crate) fn new(alloc: Global, len: usize) -> Result<BlockNeighbours, Memory>
-        ensures { IfOk result (λ n. n.lists ≡ replicate len []) }
+    /// An empty list for each count, with capacity for just that many neighbours. O(n) for n lists and neighbours.
+    pub(crate) fn with_counts(alloc: Global, counts: &[u32]) -> Result<BlockNeighbours, Memory>
+        ensures { IfOk result (λ n. n.lists ≡ replicate (length counts.now) []) }
     {
-        let mut segments = Vec::with_capacity(alloc, len)?;
-        for _ in 0..len {
-            segments.push_reserved(EMPTY);
+        let mut lists = BlockNeighbours {
+            segments: Vec::with_capacity(alloc, counts.len())?,
+            cells: Vec::with_capacity(alloc, cells_for(counts))?,
+        };
+        for count in counts {
+            lists.push_list(*count)?;
         }
-        Ok(BlockNeighbours {
-            segments,
-            cells: Vec::new(alloc),
-        })
+        Ok(lists)
+    }
+
+    // Puts an empty list behind the others, with capacity for that many neighbours.
+    fn push_list(&mut self, count: u32) -> Result<(), Memory>
+        ensures { OnOk result (self.new.lists ≡ self.old.lists ++ [] ∷ []) }
+    {
+        if count <= EMPTY.reserved {
+            self.push_empty()?;
+            return Ok(());
+        }
+        let Ok(first) = u32::try_from(self.cells.len()) else {
+            return Err(Memory);
+        };
+        self.cells.resize(first as usize + count as usize, 0)?;
+        self.segments.push(Segment {
+            first,
+            len: 0,
+            reserved: count,
+        })?;
+        Ok(())
     }
 
     /// The list with this number.
@@ -136,6 +156,17 @@ impl BlockNeighbours {
         take_at(&mut self.cells, &mut self.segments[n as usize], i);
         (i, last)
     }
+}
+
+// How many cells lists with these counts take.
+fn cells_for(counts: &[u32]) -> usize {
+    let mut cells = 0usize;
+    for count in counts {
+        if *count > EMPTY.reserved {
+            cells = cells.saturating_add(*count as usize);
+        }
+    }
+    cells
 }
 
 // Where a number stands in a list, if it does. It is looked for at one place first.

@@ -1,10 +1,11 @@
 // How many edges lead from one block to another.
-ghost use Rattle.std.specs.Prelude.{◌≡◌, ◌+◌, ◌-◌, ◌<◌, ◌≤◌, ◌^◌, false, IfOk, OnOk, IsTrue, IsFalse, nat_eq};
+ghost use Rattle.std.specs.Prelude.{◌≡◌, ◌+◌, ◌-◌, ◌<◌, ◌≤◌, ◌^◌, IfOk, OnOk, IsTrue, IsFalse, length};
 ghost use Rattle.std.specs.FinMap as map;
 ghost use Rattle.bisim_spec.specs.IndexGraphs.{support_at};
 ghost use Rattle.quotient.specs.Quotients.{pair_count, with_support};
-ghost use Rattle.quotient.specs.QuotientNeighbours.{with_one_more};
+ghost use Rattle.quotient.specs.QuotientNeighbours.{AreNeighbourLists, ArePairsBelow, IsPositive, RaisesPair, with_one_more};
 
+use crate::block_neighbours::BlockNeighbours;
 use crate::places::{Place, Places, noted};
 use indexmap::IndexMap;
 use px_base::{Memory, Recent};
@@ -53,7 +54,7 @@ impl Supports {
         ensures { IfOk result (λ s. s.pairs ≡ map.empty) }
     {
         let mut supports = Supports::new(alloc, is_noting);
-        supports.reserve(pairs)?;
+        supports.reserve_pairs(pairs)?;
         Ok(supports)
     }
 
@@ -79,8 +80,17 @@ impl Supports {
         ensures pairs { self.new.pairs ≡ self.old.pairs }
         ensures reserved { OnOk result (more ≤ self.new.reserved) }
     {
-        self.table.reserve(more)?;
+        self.reserve_pairs(more)?;
         self.places.reserve(more)
+    }
+
+    // Reserves capacity for that many further pairs, but not for their places.
+    fn reserve_pairs(&mut self, more: usize) -> Result<(), Memory>
+        ensures pairs { self.new.pairs ≡ self.old.pairs }
+        ensures reserved { OnOk result (more ≤ self.new.reserved) }
+    {
+        self.table.reserve(more)?;
+        Ok(())
     }
 
     /// Writes the support of a pair, for which capacity is reserved. It takes no memory.
@@ -120,13 +130,6 @@ impl Supports {
         }
     }
 
-    /// Notes the place of the pair that came last into the table.
-    pub(crate) fn push_place(&mut self, place: Place) -> Result<(), Memory>
-        ensures { self.new ≡ self.old }
-    {
-        self.places.push(place)
-    }
-
     /// Notes the place of the pair that came last into the table, from the capacity reserved for one. It takes no memory.
     pub(crate) fn add_place(&mut self, place: Place)
         ensures { self.new ≡ self.old }
@@ -152,20 +155,18 @@ impl Supports {
         }
     }
 
-    /// Counts one more edge, and answers whether it is the first of its pair. A pair that was counted a short time ago is
-    /// found without a hash.
+    /// Counts one more edge. A pair that was counted a short time ago is found without a hash.
     #[inline(always)]
-    pub(crate) fn raise(&mut self, a: u32, b: u32, recent: &mut Recent) -> Result<bool, Memory>
+    pub(crate) fn raise(&mut self, a: u32, b: u32, recent: &mut Recent) -> Result<(), Memory>
         requires few { support_at self.old.pairs a b < 2 ^ 32 - 1 }
-        ensures raised { OnOk result (self.new.pairs ≡ with_one_more self.old.pairs a b) }
-        ensures first { IfOk result (λ first. first ≡ nat_eq (support_at self.old.pairs a b) 0) }
+        ensures { OnOk result (RaisesPair a b (support_at self.old.pairs) (support_at self.new.pairs)) }
     {
         if self.raise_at(recent.get(a, b) as usize, a, b) {
-            return Ok(false);
+            return Ok(());
         }
-        let (i, first) = self.raise_by_hash(a, b)?;
+        let i = self.raise_by_hash(a, b)?;
         recent.put(a, b, noted(i));
-        Ok(first)
+        Ok(())
     }
 
     // Counts one more edge of a pair, if the pair has this index in the table.
@@ -173,7 +174,6 @@ impl Supports {
     fn raise_at(&mut self, i: usize, a: u32, b: u32) -> bool
         requires few { support_at self.old.pairs a b < 2 ^ 32 - 1 }
         ensures raised { IsTrue result → self.new.pairs ≡ with_one_more self.old.pairs a b }
-        ensures not_first { IsTrue result → false ≡ nat_eq (support_at self.old.pairs a b) 0 }
         ensures same { IsFalse result → self.new ≡ self.old }
     {
         let Some((pair, n)) = self.table.get_index(i) else {
@@ -190,21 +190,106 @@ impl Supports {
         true
     }
 
-    // Counts one more edge of a pair that is found by hash, and answers its index and whether the edge is its first.
+    // Counts one more edge of a pair that is found by hash, and answers its index.
     #[inline(always)]
-    fn raise_by_hash(&mut self, a: u32, b: u32) -> Result<(usize, bool), Memory>
+    fn raise_by_hash(&mut self, a: u32, b: u32) -> Result<usize, Memory>
         requires few { support_at self.old.pairs a b < 2 ^ 32 - 1 }
-        ensures raised { OnOk result (self.new.pairs ≡ with_one_more self.old.pairs a b) }
-        ensures first { IfOk result (λ found. found.1 ≡ nat_eq (support_at self.old.pairs a b) 0) }
+        ensures { OnOk result (self.new.pairs ≡ with_one_more self.old.pairs a b) }
     {
         let (i, before) = self.table.insert_full((a, b), 1)?;
         let Some(n) = before else {
-            return Ok((i, true));
+            return Ok(i);
         };
         let Some(count) = self.table.get_index_mut(i) else {
             unreachable!()
         };
         *count = n + 1;
-        Ok((i, false))
+        Ok(i)
     }
+
+    /// How many pairs begin at each block below this number, and how many end there.
+    pub(crate) fn end_counts(
+        &self,
+        alloc: Global,
+        blocks: usize,
+    ) -> Result<(Vec<u32>, Vec<u32>), Memory>
+        ensures from { IfOk result (λ counts. length counts.0.items ≡ blocks) }
+        ensures onto { IfOk result (λ counts. length counts.1.items ≡ blocks) }
+    {
+        let mut from = zeros(alloc, blocks)?;
+        let mut onto = zeros(alloc, blocks)?;
+        for i in 0..self.table.len() {
+            if let Some((pair, _)) = self.table.get_index(i) {
+                count_one(&mut from, pair.0);
+                count_one(&mut onto, pair.1);
+            }
+        }
+        Ok((from, onto))
+    }
+
+    /// Puts the two blocks of each pair into each other's lists, and notes the places. The lists are empty before.
+    pub(crate) fn list_neighbours(
+        &mut self,
+        children: &mut BlockNeighbours,
+        parents: &mut BlockNeighbours,
+    ) -> Result<(), Memory>
+        requires from { ArePairsBelow (length children.old.lists) self.old.pairs }
+        requires onto { ArePairsBelow (length parents.old.lists) self.old.pairs }
+        requires empty { AreNeighbourLists map.empty children.old.lists parents.old.lists }
+        ensures same { self.new.pairs ≡ self.old.pairs }
+        ensures neighbour_lists { OnOk result (AreNeighbourLists self.old.pairs children.new.lists parents.new.lists) }
+        ensures children { OnOk result (length children.new.lists ≡ length children.old.lists) }
+        ensures parents { OnOk result (length parents.new.lists ≡ length parents.old.lists) }
+    {
+        self.places.reserve(self.table.len())?;
+        list_pairs(&self.table, &mut self.places, children, parents)?;
+        Ok(())
+    }
+}
+
+// So many zeros.
+fn zeros(alloc: Global, len: usize) -> Result<Vec<u32>, Memory>
+    ensures { IfOk result (λ v. length v.items ≡ len) }
+{
+    let mut zeros = Vec::with_capacity(alloc, len)?;
+    zeros.resize(len, 0)?;
+    Ok(zeros)
+}
+
+// Counts one more for this number, where there is a count for it.
+fn count_one(counts: &mut Vec<u32>, n: u32)
+    ensures { length counts.new.items ≡ length counts.old.items }
+{
+    let n = n as usize;
+    if n < counts.len() {
+        counts[n] = counts[n].saturating_add(1);
+    }
+}
+
+// Puts the two blocks of each pair of the table into each other's lists, and notes the places in the order of the table.
+fn list_pairs(
+    table: &IndexMap<(u32, u32), u32>,
+    places: &mut Places,
+    children: &mut BlockNeighbours,
+    parents: &mut BlockNeighbours,
+) -> Result<(), Memory>
+    requires positive { IsPositive (map.from_entries table.now.entries) }
+    requires from { ArePairsBelow (length children.old.lists) (map.from_entries table.now.entries) }
+    requires onto { ArePairsBelow (length parents.old.lists) (map.from_entries table.now.entries) }
+    requires empty { AreNeighbourLists map.empty children.old.lists parents.old.lists }
+    ensures neighbour_lists { OnOk result (AreNeighbourLists (map.from_entries table.now.entries) children.new.lists parents.new.lists) }
+    ensures children { OnOk result (length children.new.lists ≡ length children.old.lists) }
+    ensures parents { OnOk result (length parents.new.lists ≡ length parents.old.lists) }
+{
+    for i in 0..table.len() {
+        let Some((pair, _)) = table.get_index(i) else {
+            unreachable!()
+        };
+        let (a, b) = *pair;
+        let place = Place::new(children.count(a), parents.count(b));
+        children.push(a, b)?;
+        parents.push(b, a)?;
+        places.push(place)?;
+    }
+    Ok(())
 }

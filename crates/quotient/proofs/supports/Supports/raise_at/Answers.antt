@@ -7,7 +7,7 @@ use Rattle.indexmap.specs.IndexMap.{with_value_at}
 use Rattle.indexmap.proofs.CallerLemmas.{updates-with_value_at}
 use Rattle.quotient.specs.QuotientNeighbours.{IsPositive}
 use Rattle.quotient.specs.QuotientTables.{KeptPairs}
-use Rattle.quotient.proofs.Looked.{same, not_other, same_laws, written, positive_with, found_in, supported_not_zero}
+use Rattle.quotient.proofs.Looked.{same, not_other, same_laws, written, positive_with, found_in}
 use Rattle.quotient.proofs.supports.Supports.raise_at.Goals as goal
 
 pub overflow_add-count : goal.overflow_add-count
@@ -40,11 +40,3 @@ returns-clause-raised c _ =
     (sym (subst (λ q. lookup (same q) es ≡ Some c.in-Some.n.now) this c.in-Some.ensures.value)) in
     let total : c.in-Some.n.now ≡ support_at c.args.self.now.pairs c.args.a c.args.b = ap (λ o. unwrap_or o 0) there in
     rw (← total, ← (ap (λ (k : KeptPairs). k.pairs) c.self.view_is)) now
-
-pub returns-clause-not_first : goal.returns-clause-not_first
-returns-clause-not_first c _ =
-    let es = c.self.inside.table.entries in
-    let this = not_other c.in-Some.pair.now (c.args.a, c.args.b) (sym c.if-ne.false ∙ c.ne.ensures) in
-    supported_not_zero c.args.self.now.pairs c.args.a c.args.b c.in-Some.n.now (subst IsPositive (ap (λ (k : KeptPairs). k.pairs) c.self.view_is) c.self.invariant)
-    (found_in es c.args.self.now.pairs (c.args.a, c.args.b) (Some c.in-Some.n.now) (ap (λ (k : KeptPairs). k.pairs) c.self.view_is)
-    (sym (subst (λ q. lookup (same q) es ≡ Some c.in-Some.n.now) this c.in-Some.ensures.value)))

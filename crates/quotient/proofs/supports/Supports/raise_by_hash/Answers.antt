@@ -1,11 +1,10 @@
 use Rattle.std.proofs.Common.{◌≡◌, ◌+◌, ◌∙◌, Some, unwrap_or, subst, sym, ap, arith}
-use Rattle.std.specs.Prelude.{nat_eq}
 use Rattle.std.specs.FinMap as map
 use Rattle.bisim_spec.specs.IndexGraphs.{SupportTable, support_at}
 use Rattle.indexmap.specs.IndexMap.{with_value_at}
 use Rattle.indexmap.proofs.CallerLemmas.{updates-with_value_at}
 use Rattle.quotient.specs.QuotientNeighbours.{IsPositive}
-use Rattle.quotient.proofs.Looked.{same_laws, written, twice, stands_put, positive_with, found_in, supported_not_zero}
+use Rattle.quotient.proofs.Looked.{same_laws, written, twice, stands_put, positive_with, found_in}
 use Rattle.quotient.specs.QuotientTables.{KeptPairs}
 use Rattle.quotient.proofs.supports.Supports.raise_by_hash.Goals as goal
 
@@ -22,17 +21,11 @@ invariant_of-self-in_default c =
     let now = written c.self.inside.table.entries c.insert_full.new.self.entries (c.args.a, c.args.b) 1 c.in_ok-i.ensures.updates.0 in
     subst IsPositive (sym now) (positive_with (map.from_entries c.self.inside.table.entries) c.args.a c.args.b 0 c.self.invariant)
 
-pub returns-in_default-clause-raised : goal.returns-in_default-clause-raised
-returns-in_default-clause-raised c =
+pub returns-in_default : goal.returns-in_default
+returns-in_default c =
     let none : 0 ≡ support_at c.args.self.now.pairs c.args.a c.args.b =
     ap (λ o. unwrap_or o 0) (sym c.in_default.is ∙ found_in c.self.inside.table.entries c.args.self.now.pairs (c.args.a, c.args.b) _ (ap (λ (k : KeptPairs). k.pairs) c.self.view_is) c.in_ok-i.ensures.old) in
     rw (← none, ← (ap (λ (k : KeptPairs). k.pairs) c.self.view_is)) (written c.self.inside.table.entries c.insert_full.new.self.entries (c.args.a, c.args.b) 1 c.in_ok-i.ensures.updates.0)
-
-pub returns-in_default-clause-first : goal.returns-in_default-clause-first
-returns-in_default-clause-first c =
-    let none : 0 ≡ support_at c.args.self.now.pairs c.args.a c.args.b =
-    ap (λ o. unwrap_or o 0) (sym c.in_default.is ∙ found_in c.self.inside.table.entries c.args.self.now.pairs (c.args.a, c.args.b) _ (ap (λ (k : KeptPairs). k.pairs) c.self.view_is) c.in_ok-i.ensures.old) in
-    ap (λ n. nat_eq n 0) none
 
 pub invariant_of-self-2 : goal.invariant_of-self-2
 invariant_of-self-2 c =
@@ -45,8 +38,8 @@ invariant_of-self-2 c =
     ∙ ap (λ (t : SupportTable). map.insert t (c.args.a, c.args.b) (c.in-Some.n + 1)) one ∙ twice (map.from_entries es) (c.args.a, c.args.b) 1 (c.in-Some.n + 1) in
     subst IsPositive (sym now) (positive_with (map.from_entries es) c.args.a c.args.b c.in-Some.n c.self.invariant)
 
-pub returns-clause-raised : goal.returns-clause-raised
-returns-clause-raised c =
+pub returns : goal.returns
+returns c =
     let es = c.self.inside.table.entries in
     let one = written es c.insert_full.new.self.entries (c.args.a, c.args.b) 1 c.in_ok-i.ensures.updates.0 in
     let at = stands_put es c.insert_full.new.self.entries (c.args.a, c.args.b) 1 c.in_ok-i.i c.in_ok-i.ensures.entries c.in_ok-i.ensures.index in
@@ -58,8 +51,3 @@ returns-clause-raised c =
     sym c.in-Some.is ∙ found_in es c.args.self.now.pairs (c.args.a, c.args.b) _ (ap (λ (k : KeptPairs). k.pairs) c.self.view_is) c.in_ok-i.ensures.old in
     let total : c.in-Some.n ≡ support_at c.args.self.now.pairs c.args.a c.args.b = ap (λ o. unwrap_or o 0) there in
     rw (← total, ← (ap (λ (k : KeptPairs). k.pairs) c.self.view_is)) now
-
-pub returns-clause-first : goal.returns-clause-first
-returns-clause-first c =
-    supported_not_zero c.args.self.now.pairs c.args.a c.args.b c.in-Some.n (subst IsPositive (ap (λ (k : KeptPairs). k.pairs) c.self.view_is) c.self.invariant)
-    (sym c.in-Some.is ∙ found_in c.self.inside.table.entries c.args.self.now.pairs (c.args.a, c.args.b) _ (ap (λ (k : KeptPairs). k.pairs) c.self.view_is) c.in_ok-i.ensures.old)
