@@ -7,7 +7,7 @@ use Rattle.path_query.specs.Labels.{SpellsLabel}
 use Rattle.index_api.specs.declared.kinds.Via.{Via}
 use Rattle.index_api.specs.declared.kinds.Via.TheVariants.{Data, A, One, Fb, B}
 use Rattle.index_file.specs.declared.due.Due.{Due}
-use Rattle.index_file.specs.declared.due.Due.TheVariants.{Title, Allocated, Nodes, Edges, Ranks}
+use Rattle.index_file.specs.declared.due.Due.TheVariants.{Title, Allocated, Nodes, EdgesLeft, Ranks}
 use Rattle.index_file.specs.FoundNumbers.{saturated, IsFound, AreFound}
 use Rattle.index_file.specs.NamedIndexes.{IsNamed, IsTooHigh}
 use Rattle.index_file.specs.SavedFiles.{seen_of}
@@ -59,21 +59,21 @@ module _ (limits : Limits) (line : List ℕ) (old : Reading) (due : old.due ≡ 
 -- the line of the number of edges
 module _ (limits : Limits) (line : List ℕ) (old : Reading) (due : old.due ≡ Nodes 0) (count : ℕ)
     (f : IsFound (λ m. HasPrefix (codes "edges ") line (λ digits. IsNumber digits m)) count) where
-  pub edge_count_taken : (new : Reading) → count ≤ limits.edges → count ≤ 4294967295 → new ≡ record old { due = Edges count } → IsTaken limits line old new
+  pub edge_count_taken : (new : Reading) → count ≤ limits.edges → count ≤ 4294967295 → new ≡ record old { due = EdgesLeft count } → IsTaken limits line old new
   edge_count_taken new within few e =
       let n : f.number ≡ count = number_same count f.number f.is (omega (arith, few)) in
       taken_at limits line old new (Nodes 0) (edges f.number) due f.holds
       (ap (nat_lt limits.edges) n ∙ le-ltb limits.edges count within)
-      (ap (λ m. Some (record old { due = Edges m })) n ∙ ap Some (sym e))
+      (ap (λ m. Some (record old { due = EdgesLeft m })) n ∙ ap Some (sym e))
 
   pub edge_count_over : limits.edges < count → ExceedsAt limits line old
   edge_count_over many = over_at limits line old (Nodes 0) (edges f.number) due f.holds (lt-ltb limits.edges f.number (number_above count f.number limits.edges f.is many))
 
 -- the line of the number of views
-pub view_count_taken : (limits : Limits) (line : List ℕ) (old new : Reading) (count : ℕ) → old.due ≡ Edges 0
+pub view_count_taken : (limits : Limits) (line : List ℕ) (old new : Reading) (count : ℕ) → old.due ≡ EdgesLeft 0
     → IsFound (λ m. HasPrefix (codes "views ") line (λ digits. IsNumber digits m)) count → new ≡ record old { due = Ranks 0 count } → IsTaken limits line old new
 view_count_taken limits line old new count due f e =
-    taken_at limits line old new (Edges 0) (views f.number) due f.holds refl (ap (λ m. Some (record old { due = Ranks 0 m })) (sym f.is) ∙ ap Some (sym e))
+    taken_at limits line old new (EdgesLeft 0) (views f.number) due f.holds refl (ap (λ m. Some (record old { due = Ranks 0 m })) (sym f.is) ∙ ap Some (sym e))
 
 -- the line of a label
 pub live_taken : (limits : Limits) (word : List ℕ) (old new : Reading) (left : ℕ) (t : List ℕ) → old.due ≡ Nodes (suc left) → SpellsLabel word t
@@ -160,12 +160,12 @@ module _ (r : Reading) (few : length r.allocated ≤ 4294967295) where
   edge_read u v a b e f = onto_read a v b f ∙ from_read u v a e
 
 -- the line of an edge
-module _ (limits : Limits) (line : List ℕ) (old : Reading) (left : ℕ) (due : old.due ≡ Edges (suc left)) (few : length old.allocated ≤ 4294967295) (p : ℕ × ℕ)
+module _ (limits : Limits) (line : List ℕ) (old : Reading) (left : ℕ) (due : old.due ≡ EdgesLeft (suc left)) (few : length old.allocated ≤ 4294967295) (p : ℕ × ℕ)
     (f : AreFound (AreNumbers (codes " ") line) p) where
   same : can_take_edge old p.0 p.1 ≡ can_take_edge old f.first f.second
   same = edge_read old few f.first f.second p.0 p.1 f.are.0 f.are.1
 
-  pub edge_taken : (new : Reading) → can_take_edge old p.0 p.1 ≡ true → new ≡ record old { due = Edges left; pairs = old.pairs ++ (p.0, p.1) ∷ [] } → IsTaken limits line old new
+  pub edge_taken : (new : Reading) → can_take_edge old p.0 p.1 ≡ true → new ≡ record old { due = EdgesLeft left; pairs = old.pairs ++ (p.0, p.1) ∷ [] } → IsTaken limits line old new
   edge_taken new on e =
       let ends = and_parts (is_live_in old.allocated p.0) (is_live_in old.allocated p.1 && is_behind (last_of old.pairs) p.0 p.1) on in
       let onto = and_parts (is_live_in old.allocated p.1) (is_behind (last_of old.pairs) p.0 p.1) ends.1 in
@@ -173,8 +173,8 @@ module _ (limits : Limits) (line : List ℕ) (old : Reading) (left : ℕ) (due :
       let b = live_below old.allocated p.1 onto.0 in
       let u : f.first ≡ p.0 = number_same p.0 f.first f.are.0 (omega (arith, a, few)) in
       let v : f.second ≡ p.1 = number_same p.1 f.second f.are.1 (omega (arith, b, few)) in
-      taken_at limits line old new (Edges (suc left)) (edge f.first f.second) due f.hold refl
-      (ap (λ n. take_edge left n f.second old) u ∙ ap (λ n. take_edge left p.0 n old) v ∙ ap (λ b. if b then Some (record old { due = Edges left; pairs = old.pairs ++ (p.0, p.1) ∷ [] }) else None) on ∙ ap Some (sym e))
+      taken_at limits line old new (EdgesLeft (suc left)) (edge f.first f.second) due f.hold refl
+      (ap (λ n. take_edge left n f.second old) u ∙ ap (λ n. take_edge left p.0 n old) v ∙ ap (λ b. if b then Some (record old { due = EdgesLeft left; pairs = old.pairs ++ (p.0, p.1) ∷ [] }) else None) on ∙ ap Some (sym e))
 
   pub edge_wrong : can_take_edge old p.0 p.1 ≡ false → IsWrong limits line old
   edge_wrong off = wrong_edge limits line old left due (λ u v h. at u v (f.only u v h))
@@ -182,7 +182,7 @@ module _ (limits : Limits) (line : List ℕ) (old : Reading) (left : ℕ) (due :
       at : (u v : ℕ) → (u ≡ f.first) × (v ≡ f.second) → take_edge left u v old ≡ None
       at u v (first, second) =
           let none : can_take_edge old u v ≡ false = ap (λ n. can_take_edge old n v) first ∙ ap (can_take_edge old f.first) second ∙ sym same ∙ off in
-          ap (λ b. if b then Some (record old { due = Edges left; pairs = old.pairs ++ (u, v) ∷ [] }) else None) none
+          ap (λ b. if b then Some (record old { due = EdgesLeft left; pairs = old.pairs ++ (u, v) ∷ [] }) else None) none
 
 -- the line of a view
 high_apart : (k level : ℕ) → k ≤ 8 → 8 < level → nat_le level k ≡ false
@@ -312,7 +312,7 @@ module _ (old : Reading) (d : IsDraft old) where
         views = views_at (Nodes (suc left)) due;
       }
 
-  pub draft_edge_count : (m : ℕ) → old.due ≡ Nodes 0 → m ≤ 4294967295 → IsDraft (record old { due = Edges m })
+  pub draft_edge_count : (m : ℕ) → old.due ≡ Nodes 0 → m ≤ 4294967295 → IsDraft (record old { due = EdgesLeft m })
   draft_edge_count m due few =
       let edges : edges_left old.due ≡ 4294967295 = ap edges_left due in
       record {
@@ -325,8 +325,8 @@ module _ (old : Reading) (d : IsDraft old) where
         views = views_at (Nodes 0) due;
       }
 
-  pub draft_edge : (left u v : ℕ) (pairs : List (ℕ × ℕ)) → old.due ≡ Edges (suc left) → can_take_edge old u v ≡ true → pairs ≡ old.pairs ++ (u, v) ∷ []
-      → IsDraft (record old { due = Edges left; pairs = pairs })
+  pub draft_edge : (left u v : ℕ) (pairs : List (ℕ × ℕ)) → old.due ≡ EdgesLeft (suc left) → can_take_edge old u v ≡ true → pairs ≡ old.pairs ++ (u, v) ∷ []
+      → IsDraft (record old { due = EdgesLeft left; pairs = pairs })
   draft_edge left u v pairs due can e =
       let before : edges_left old.due ≡ suc left = ap edges_left due in
       let more = ap length e in
@@ -338,10 +338,10 @@ module _ (old : Reading) (d : IsDraft old) where
         few_edges = omega (arith, edges_few, before, more, one);
         few_views = d.few_views;
         edges = subst (AreReadEdges old.allocated) (sym e) (edge_pushed old u v d.edges can);
-        views = views_at (Edges (suc left)) due;
+        views = views_at (EdgesLeft (suc left)) due;
       }
 
-  pub draft_views : (n : ℕ) → old.due ≡ Edges 0 → IsDraft (record old { due = Ranks 0 n })
+  pub draft_views : (n : ℕ) → old.due ≡ EdgesLeft 0 → IsDraft (record old { due = Ranks 0 n })
   draft_views n due = record {
     level = d.level;
     few_nodes = nodes_stay;
@@ -349,7 +349,7 @@ module _ (old : Reading) (d : IsDraft old) where
     few_edges = edges_stay;
     few_views = d.few_views;
     edges = d.edges;
-    views = subst (λ vs. HaveRanks (live_in old.allocated) vs 0) (sym (views_at (Edges 0) due)) tt;
+    views = subst (λ vs. HaveRanks (live_in old.allocated) vs 0) (sym (views_at (EdgesLeft 0) due)) tt;
   }
 
   pub draft_view : (count n : ℕ) (via : Via) (vs : List RankedView) → old.due ≡ Ranks 0 n → can_take_view old n via ≡ true → count ≡ live_in old.allocated

@@ -15,7 +15,7 @@ use Rattle.adjacency.specs.Rows.{row, rows_of, edges_in}
 use Rattle.adjacency.specs.Targets.{targets_of, own_first, from_own, BeginBelow}
 use Rattle.adjacency.proofs.RowLaws.{row_first, rows_count}
 use Rattle.index_file.specs.declared.due.Due.{Due}
-use Rattle.index_file.specs.declared.due.Due.TheVariants.{Title, Allocated, Nodes, Edges, Ranks}
+use Rattle.index_file.specs.declared.due.Due.TheVariants.{Title, Allocated, Nodes, EdgesLeft, Ranks}
 use Rattle.index_file.specs.SavedFiles.{seen_after, seen_of, edges_of, graph_of}
 use Rattle.index_file.specs.Readings.{Reading, RankedView, live_in, last_via, is_done, is_end, is_complete, file_of, view_in}
 use Rattle.index_file.specs.ReadEdges.{JoinLive, AreReadEdges}
@@ -134,7 +134,7 @@ ranks_due : (due : Due) (live : ℕ) (views : List RankedView) → is_done due (
 ranks_due Title live views h f = absurd (true≢false (sym h))
 ranks_due Allocated live views h f = absurd (true≢false (sym h))
 ranks_due (Nodes n) live views h f = absurd (true≢false (sym h))
-ranks_due (Edges m) live views h f = absurd (true≢false (sym h))
+ranks_due (EdgesLeft m) live views h f = absurd (true≢false (sym h))
 ranks_due (Ranks m n) live views h f = subst (HaveRanks live views) (eqb-true m 0 (and_parts (nat_eq m 0) (nat_eq (length views) n) h).0) f
 
 module _ (r : Reading) (d : IsDraft r) (whole : is_complete r ≡ true) (children parents : List (List ℕ)) (places : List ℕ)

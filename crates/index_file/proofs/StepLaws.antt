@@ -5,7 +5,7 @@ use Rattle.graph_spec.specs.declared.limits.Limits.{Limits}
 use Rattle.path_query.specs.Labels.{SpellsLabel}
 use Rattle.index_api.specs.declared.kinds.Via.{Via}
 use Rattle.index_file.specs.declared.due.Due.{Due}
-use Rattle.index_file.specs.declared.due.Due.TheVariants.{Title, Allocated, Nodes, Edges, Ranks}
+use Rattle.index_file.specs.declared.due.Due.TheVariants.{Title, Allocated, Nodes, EdgesLeft, Ranks}
 use Rattle.index_file.specs.Statements.{Statement, title, allocated, live, gone, edges, edge, views, view, rank, Says, HasPrefix, AreNumbers, IsNumber, NamesIndex}
 use Rattle.index_file.specs.Readings.{Reading, step, exceeds_at, take_allocated, take_edge, take_view, take_rank}
 use Rattle.index_file.specs.Reads.{IsTaken, ExceedsAt, IsWrong}
@@ -70,7 +70,7 @@ at_edge_count limits line r bad (rank x) says = (refl, refl)
 pub wrong_edge_count : (limits : Limits) (line : List ℕ) (r : Reading) → r.due ≡ (Nodes 0) → ((m : ℕ) → HasPrefix (codes "edges ") line (λ digits. IsNumber digits m) → ⊥) → IsWrong limits line r
 wrong_edge_count limits line r due bad = subst (λ d. WrongAt limits line r d) (sym due) (at_edge_count limits line r bad)
 
-at_edge : (limits : Limits) (line : List ℕ) (r : Reading) (left : ℕ) → ((u v : ℕ) → AreNumbers (codes " ") line u v → take_edge left u v r ≡ None) → WrongAt limits line r (Edges (suc left))
+at_edge : (limits : Limits) (line : List ℕ) (r : Reading) (left : ℕ) → ((u v : ℕ) → AreNumbers (codes " ") line u v → take_edge left u v r ≡ None) → WrongAt limits line r (EdgesLeft (suc left))
 at_edge limits line r left bad title says = (refl, refl)
 at_edge limits line r left bad (allocated n k) says = (refl, refl)
 at_edge limits line r left bad (live t) says = (refl, refl)
@@ -81,10 +81,10 @@ at_edge limits line r left bad (views n) says = (refl, refl)
 at_edge limits line r left bad (view via) says = (refl, refl)
 at_edge limits line r left bad (rank x) says = (refl, refl)
 
-pub wrong_edge : (limits : Limits) (line : List ℕ) (r : Reading) (left : ℕ) → r.due ≡ (Edges (suc left)) → ((u v : ℕ) → AreNumbers (codes " ") line u v → take_edge left u v r ≡ None) → IsWrong limits line r
+pub wrong_edge : (limits : Limits) (line : List ℕ) (r : Reading) (left : ℕ) → r.due ≡ (EdgesLeft (suc left)) → ((u v : ℕ) → AreNumbers (codes " ") line u v → take_edge left u v r ≡ None) → IsWrong limits line r
 wrong_edge limits line r left due bad = subst (λ d. WrongAt limits line r d) (sym due) (at_edge limits line r left bad)
 
-at_view_count : (limits : Limits) (line : List ℕ) (r : Reading) → ((n : ℕ) → HasPrefix (codes "views ") line (λ digits. IsNumber digits n) → ⊥) → WrongAt limits line r (Edges 0)
+at_view_count : (limits : Limits) (line : List ℕ) (r : Reading) → ((n : ℕ) → HasPrefix (codes "views ") line (λ digits. IsNumber digits n) → ⊥) → WrongAt limits line r (EdgesLeft 0)
 at_view_count limits line r bad title says = (refl, refl)
 at_view_count limits line r bad (allocated n k) says = (refl, refl)
 at_view_count limits line r bad (live t) says = (refl, refl)
@@ -95,7 +95,7 @@ at_view_count limits line r bad (views n) says = absurd (bad n says)
 at_view_count limits line r bad (view via) says = (refl, refl)
 at_view_count limits line r bad (rank x) says = (refl, refl)
 
-pub wrong_view_count : (limits : Limits) (line : List ℕ) (r : Reading) → r.due ≡ (Edges 0) → ((n : ℕ) → HasPrefix (codes "views ") line (λ digits. IsNumber digits n) → ⊥) → IsWrong limits line r
+pub wrong_view_count : (limits : Limits) (line : List ℕ) (r : Reading) → r.due ≡ (EdgesLeft 0) → ((n : ℕ) → HasPrefix (codes "views ") line (λ digits. IsNumber digits n) → ⊥) → IsWrong limits line r
 wrong_view_count limits line r due bad = subst (λ d. WrongAt limits line r d) (sym due) (at_view_count limits line r bad)
 
 at_view : (limits : Limits) (line : List ℕ) (r : Reading) (count : ℕ) → ((via : Via) → HasPrefix (codes "view ") line (λ word. NamesIndex word via) → take_view count via r ≡ None) → WrongAt limits line r (Ranks 0 count)

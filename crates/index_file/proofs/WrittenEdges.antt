@@ -248,7 +248,7 @@ edges_few g w few =
 -- ---- their lines
 
 abbrev pub edges_read : ℕ → List (Option (List ℕ)) → ℕ → List (ℕ × ℕ) → Reading
-edges_read k allocated n pairs = record { due = due.Edges n; k = k; allocated = allocated; pairs = pairs; views = [] }
+edges_read k allocated n pairs = record { due = due.EdgesLeft n; k = k; allocated = allocated; pairs = pairs; views = [] }
 
 edge_says : (u v : ℕ) → u < 2 ^ 64 → v < 2 ^ 64 → Says (decimal u ++ (codes " " ++ decimal v)) (edge u v)
 edge_says u v h l = (decimal u, decimal v, refl, number_written u h, number_written v l)

@@ -2,7 +2,7 @@
 use Rattle.std.specs.Prelude.{ℕ, ◌≡◌, ◌≤◌, ◌+◌, List, [], length, Option, refl}
 use Rattle.std.specs.Coded.{Coded, code_by, coded×, coded_ℕ, coded_list, coded_option}
 use Rattle.index_file.specs.declared.due.Due.{Due}
-use Rattle.index_file.specs.declared.due.Due.TheVariants.{Title, Allocated, Nodes, Edges, Ranks}
+use Rattle.index_file.specs.declared.due.Due.TheVariants.{Title, Allocated, Nodes, EdgesLeft, Ranks}
 use Rattle.index_file.specs.contracts.due.Due.{the_row as due_row}
 use Rattle.index_file.specs.Readings.{Reading, RankedView, live_in, last_via}
 use Rattle.index_file.specs.ReadEdges.{AreReadEdges}
@@ -13,7 +13,7 @@ abbrev pub nodes_left : Due → ℕ
 nodes_left Title = 4294967295
 nodes_left Allocated = 4294967295
 nodes_left (Nodes n) = n
-nodes_left (Edges m) = 0
+nodes_left (EdgesLeft m) = 0
 nodes_left (Ranks m n) = 0
 
 -- how many ranks of the last view are due
@@ -21,7 +21,7 @@ abbrev pub ranks_left : Due → ℕ
 ranks_left Title = 0
 ranks_left Allocated = 0
 ranks_left (Nodes n) = 0
-ranks_left (Edges m) = 0
+ranks_left (EdgesLeft m) = 0
 ranks_left (Ranks m n) = m
 
 -- how many edges may still come
@@ -29,7 +29,7 @@ abbrev pub edges_left : Due → ℕ
 edges_left Title = 4294967295
 edges_left Allocated = 4294967295
 edges_left (Nodes n) = 4294967295
-edges_left (Edges m) = m
+edges_left (EdgesLeft m) = m
 edges_left (Ranks m n) = 0
 
 -- the views come last, and each has a rank for each live node
@@ -37,7 +37,7 @@ abbrev pub FitDue : Due → ℕ → List RankedView → Type 0
 FitDue Title live views = views ≡ []
 FitDue Allocated live views = views ≡ []
 FitDue (Nodes n) live views = views ≡ []
-FitDue (Edges m) live views = views ≡ []
+FitDue (EdgesLeft m) live views = views ≡ []
 FitDue (Ranks m n) live views = HaveRanks live views m
 
 -- the numbers, the edges, and the ranks of the last view, are fewer than 2^32 with those that are to come

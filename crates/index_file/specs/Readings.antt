@@ -6,7 +6,7 @@ use Rattle.index_api.specs.declared.kinds.Via.{Via}
 use Rattle.index_api.specs.declared.kinds.Via.TheVariants.{Data, A, One, Fb, B}
 use Rattle.index_file.specs.SavedFiles.{SavedFile, SavedView, seen_of, graph_of, ranks_at}
 use Rattle.index_file.specs.declared.due.Due.{Due}
-use Rattle.index_file.specs.declared.due.Due.TheVariants.{Title, Allocated, Nodes, Edges, Ranks}
+use Rattle.index_file.specs.declared.due.Due.TheVariants.{Title, Allocated, Nodes, EdgesLeft, Ranks}
 use Rattle.index_file.specs.FoundNumbers.{saturated}
 use Rattle.index_file.specs.Statements as statement
 use Rattle.index_file.specs.Statements.{Statement}
@@ -129,7 +129,7 @@ can_take_edge r u v = is_live_in r.allocated u && (is_live_in r.allocated v && i
 
 -- one more edge is read, and m are left; none where it can't come next
 abbrev pub take_edge : ℕ → ℕ → ℕ → Reading → Option Reading
-take_edge m u v r = if can_take_edge r u v then Some (record r { due = Edges m; pairs = r.pairs ++ (u, v) ∷ [] }) else None
+take_edge m u v r = if can_take_edge r u v then Some (record r { due = EdgesLeft m; pairs = r.pairs ++ (u, v) ∷ [] }) else None
 
 -- whether a view of the index may come next, where there are so many views
 abbrev pub can_take_view : Reading → ℕ → Via → Bool
@@ -149,11 +149,11 @@ take_rank m n rank r = option_and_then (λ vs. Some (record r { due = Ranks m n;
 abbrev pub step : Due → Statement → Reading → Option Reading
 step Title statement.title r = Some (record r { due = Allocated })
 step Allocated (statement.allocated n k) r = take_allocated n k r
-step (Nodes zero) (statement.edges m) r = Some (record r { due = Edges m })
+step (Nodes zero) (statement.edges m) r = Some (record r { due = EdgesLeft m })
 step (Nodes (suc n)) (statement.live t) r = take_node n (Some t) r
 step (Nodes (suc n)) statement.gone r = take_node n None r
-step (Edges zero) (statement.views n) r = Some (record r { due = Ranks 0 (counted_views n) })
-step (Edges (suc m)) (statement.edge u v) r = take_edge m u v r
+step (EdgesLeft zero) (statement.views n) r = Some (record r { due = Ranks 0 (counted_views n) })
+step (EdgesLeft (suc m)) (statement.edge u v) r = take_edge m u v r
 step (Ranks zero n) (statement.view via) r = take_view n via r
 step (Ranks (suc m) n) (statement.rank rank) r = take_rank m n rank r
 step due s r = None
@@ -178,7 +178,7 @@ abbrev pub is_done : Due → ℕ → Bool
 is_done Title count = false
 is_done Allocated count = false
 is_done (Nodes n) count = false
-is_done (Edges m) count = false
+is_done (EdgesLeft m) count = false
 is_done (Ranks m n) count = nat_eq m 0 && nat_eq count n
 
 -- whether the file may end here

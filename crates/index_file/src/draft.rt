@@ -4,7 +4,7 @@ ghost use Rattle.index_file.specs.Readings as readings;
 ghost use Rattle.index_file.specs.Readings.{nothing_read, is_complete, file_of, last_of, is_live_in, can_take_edge, can_take_view};
 ghost use Rattle.index_file.specs.Reads.{IsTaken, ExceedsAt, IsWrong};
 ghost use Rattle.index_file.specs.SavedGraphs.{IsSaved, saved_file};
-ghost use Rattle.index_file.specs.declared.due.Due.TheVariants.{Title, Allocated, Nodes, Edges, Ranks};
+ghost use Rattle.index_file.specs.declared.due.Due.TheVariants.{Title, Allocated, Nodes, EdgesLeft, Ranks};
 
 use crate::due::{Due, Stop};
 use crate::names::view_of;
@@ -95,7 +95,7 @@ fn is_done(due: Due, views: usize) -> bool
         Due::Title => false,
         Due::Allocated => false,
         Due::Nodes(_) => false,
-        Due::Edges(_) => false,
+        Due::EdgesLeft(_) => false,
         Due::Ranks(left, count) => left == 0 && views as u64 == count,
     }
 }
@@ -262,13 +262,13 @@ impl Draft {
         let Some(edges) = count_within(count, limits.edges) else {
             return Err(Stop::Limit);
         };
-        self.due = Due::Edges(edges);
+        self.due = Due::EdgesLeft(edges);
         Ok(())
     }
 
     // The line of an edge, where `left` lines of edges follow.
     fn take_edge(&mut self, limits: &Limits, line: &[u8], left: u32) -> Result<(), Stop>
-        requires due { self.old.due ≡ Edges (suc left) }
+        requires due { self.old.due ≡ EdgesLeft (suc left) }
         ensures taken { OnOk result (IsTaken limits.now line.now self.old self.new) }
         ensures over { IsErrOf result Stop.Limit → ExceedsAt limits.now line.now self.old }
         ensures wrong { IsErrOf result Stop.Syntax → IsWrong limits.now line.now self.old }
@@ -281,7 +281,7 @@ impl Draft {
         };
         match push_pair(&mut self.pairs, edge) {
             Ok(()) => {
-                self.due = Due::Edges(left);
+                self.due = Due::EdgesLeft(left);
                 Ok(())
             }
             Err(_) => Err(Stop::Memory),
@@ -289,7 +289,7 @@ impl Draft {
     }
 
     fn take_view_count(&mut self, limits: &Limits, line: &[u8]) -> Result<(), Stop>
-        requires due { self.old.due ≡ Edges 0 }
+        requires due { self.old.due ≡ EdgesLeft 0 }
         ensures taken { OnOk result (IsTaken limits.now line.now self.old self.new) }
         ensures over { IsErrOf result Stop.Limit → ExceedsAt limits.now line.now self.old }
         ensures wrong { IsErrOf result Stop.Syntax → IsWrong limits.now line.now self.old }
@@ -377,7 +377,7 @@ impl Draft {
 
     // The line where so many edges are due, and then the number of views.
     fn take_behind_edges(&mut self, limits: &Limits, line: &[u8], count: u32) -> Result<(), Stop>
-        requires due { self.old.due ≡ Edges count }
+        requires due { self.old.due ≡ EdgesLeft count }
         ensures taken { OnOk result (IsTaken limits.now line.now self.old self.new) }
         ensures over { IsErrOf result Stop.Limit → ExceedsAt limits.now line.now self.old }
         ensures wrong { IsErrOf result Stop.Syntax → IsWrong limits.now line.now self.old }
@@ -421,7 +421,7 @@ impl Draft {
             Due::Title => self.take_title(limits, line),
             Due::Allocated => self.take_allocated(limits, line),
             Due::Nodes(count) => self.take_behind_nodes(alloc, limits, line, count),
-            Due::Edges(count) => self.take_behind_edges(limits, line, count),
+            Due::EdgesLeft(count) => self.take_behind_edges(limits, line, count),
             Due::Ranks(ranks, views) => self.take_behind_ranks(alloc, limits, line, ranks, views),
         }
     }

@@ -14,7 +14,7 @@ pub(crate) enum Due {
     /// So many numbers, and then the number of edges.
     Nodes(u32),
     /// So many edges, and then the number of views.
-    Edges(u32),
+    EdgesLeft(u32),
     /// So many ranks of the last view, and then views, until there are so many.
     Ranks(usize, u64),
 }

@@ -11,8 +11,9 @@ use px_base::Memory;
 use std::alloc::Global;
 use std::marker::Model;
 
-/// A list of neighbours for each block number. The lists lie in one array, so that no block takes an allocation of its own:
-/// a list takes 12 bytes, and where it ever had two neighbours, 4 to 16 for each of the most that it had.
+/// A list of neighbours for each block number. The lists lie in one array, so that no block takes an allocation of its own.
+/// A list takes 12 bytes, and 4 for each neighbour if it has more than one. A list that grows later takes 4 to 16 for each
+/// of the most that it had.
 #[derive(Drop)]
 pub(crate) struct BlockNeighbours {
     segments: Vec<Segment>,

@@ -23,7 +23,7 @@ use Rattle.pathindex_core.specs.Updates.{IsUpdated, graph_or, outcome_in, opened
 use Rattle.script_interpreter.specs.declared.printing.Printing.{Printing}
 use Rattle.script_interpreter.specs.Rules.{if_whole, rules_for}
 use Rattle.script_interpreter.specs.declared.group.Scope.{Scope}
-use Rattle.script_interpreter.specs.declared.group.Scope.TheVariants.{Line}
+use Rattle.script_interpreter.specs.declared.group.Scope.TheVariants.{OneLine}
 use Rattle.script_interpreter.specs.LineTexts.{made_lines, refused_line, ok_line, reply}
 use Rattle.script_interpreter.specs.Outputs.{Gathered, with_printed}
 use Rattle.script_interpreter.specs.States.{State, BeginsRun}
@@ -100,7 +100,7 @@ refused_changed n scope c e f r old new ready same q g =
     }
 
 -- a change of one step is a command
-pub changed_obeyed : (s : State) (x : Step) (old : Gathered) (refuses : Bool) (t : State) (new : Gathered) → Changed Line s (x ∷ []) old refuses t new → Obeyed s (change x) old t new
+pub changed_obeyed : (s : State) (x : Step) (old : Gathered) (refuses : Bool) (t : State) (new : Gathered) → Changed OneLine s (x ∷ []) old refuses t new → Obeyed s (change x) old t new
 changed_obeyed s x old refuses t new c = record { printed = c.printed; refuses = refuses; obeys = changes x c.printed refuses t c.makes; gathered_is = c.gathered_is }
 
 -- the numbers that an accepted change allocates are few, if those of the graph before and after it are

@@ -14,9 +14,9 @@ const KEPT_STEPS: usize = 1025;
 #[derive(Clone, Copy, Debug, PartialEq, Eq)]
 pub(crate) enum Scope {
     /// It is a line of its own.
-    Line,
+    OneLine,
     /// It is a group of lines.
-    Lines,
+    Group,
 }
 
 /// A group that isn't ended.

@@ -440,7 +440,7 @@ fn end<B: PathIndex>(
     ensures err { OnErr result (output.new ≡ output.old) }
 {
     match group.take() {
-        Some(open) => make(alloc, engine, open.change, Scope::Lines, output),
+        Some(open) => make(alloc, engine, open.change, Scope::Group, output),
         None => unreachable!(),
     }
 }

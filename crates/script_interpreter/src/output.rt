@@ -183,8 +183,8 @@ fn push_some(out: &mut Vec<u8>, applied: Applied, scope: Scope) -> Result<(), Me
     ensures err { OnErr result (Extends out.old.items out.new.items) }
 {
     match scope {
-        Scope::Line => push_one(out, applied),
-        Scope::Lines => push_all(out, applied),
+        Scope::OneLine => push_one(out, applied),
+        Scope::Group => push_all(out, applied),
     }
 }
 

@@ -12,7 +12,7 @@ pub take_behind_nodes-requires : goal.take_behind_nodes-requires
 take_behind_nodes-requires c = record { due = ap (λ (r : Reading). r.due) (sym c.self.view_is) ∙ c.in-Nodes.is }
 
 pub take_behind_edges-requires : goal.take_behind_edges-requires
-take_behind_edges-requires c = record { due = ap (λ (r : Reading). r.due) (sym c.self.view_is) ∙ c.in-Edges.is }
+take_behind_edges-requires c = record { due = ap (λ (r : Reading). r.due) (sym c.self.view_is) ∙ c.in-EdgesLeft.is }
 
 pub take_behind_ranks-requires : goal.take_behind_ranks-requires
 take_behind_ranks-requires c = record { due = ap (λ (r : Reading). r.due) (sym c.self.view_is) ∙ c.in-Ranks.is }

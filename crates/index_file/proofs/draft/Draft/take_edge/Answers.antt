@@ -1,5 +1,5 @@
 use Rattle.std.proofs.Common.{[], ◌∷◌, ◌++◌, ap, ◌∙◌}
-use Rattle.index_file.specs.declared.due.Due.TheVariants.{Edges}
+use Rattle.index_file.specs.declared.due.Due.TheVariants.{EdgesLeft}
 use Rattle.index_file.specs.Readings.{Reading, can_take_edge}
 use Rattle.index_file.proofs.StepLaws.{wrong_edge}
 use Rattle.index_file.proofs.DraftLaws.{edge_taken, edge_wrong, draft_edge, same_pairs, few_live}
@@ -20,9 +20,9 @@ returns-in-Ok-clause-taken c =
     let e = c.in-Some-edge_between.ensures.found in
     edge_taken c.args.limits.now c.args.line.now c.args.self.now c.args.left c.requires.due (few_live _ _ c.self.view_is c.self.invariant) (c.in-Some.from, c.in-Some.onto)
     c.in-Some.ensures.found _ e.1
-    (ap (λ ps. record { due = Edges c.args.left; k = s.k; allocated = s.nodes; pairs = ps; views = s.views }) c.in-Ok.ensures.ok
-    ∙ ap (λ p. record { due = Edges c.args.left; k = s.k; allocated = s.nodes; pairs = s.pairs.items ++ p ∷ []; views = s.views }) e.0
-    ∙ ap (λ (r : Reading). record r { due = Edges c.args.left; pairs = r.pairs ++ (c.in-Some.from, c.in-Some.onto) ∷ [] }) c.self.view_is)
+    (ap (λ ps. record { due = EdgesLeft c.args.left; k = s.k; allocated = s.nodes; pairs = ps; views = s.views }) c.in-Ok.ensures.ok
+    ∙ ap (λ p. record { due = EdgesLeft c.args.left; k = s.k; allocated = s.nodes; pairs = s.pairs.items ++ p ∷ []; views = s.views }) e.0
+    ∙ ap (λ (r : Reading). record r { due = EdgesLeft c.args.left; pairs = r.pairs ++ (c.in-Some.from, c.in-Some.onto) ∷ [] }) c.self.view_is)
 
 pub invariant_of-self : goal.invariant_of-self
 invariant_of-self c =

@@ -1,5 +1,5 @@
 use Rattle.std.proofs.Common.{ap, ◌∙◌, arith}
-use Rattle.index_file.specs.declared.due.Due.TheVariants.{Edges}
+use Rattle.index_file.specs.declared.due.Due.TheVariants.{EdgesLeft}
 use Rattle.index_file.specs.Readings.{Reading}
 use Rattle.index_file.proofs.StepLaws.{wrong_edge_count}
 use Rattle.index_file.proofs.DraftLaws.{edge_count_taken, edge_count_over, draft_edge_count}
@@ -17,8 +17,8 @@ returns-clause-taken c =
     let s = c.self.inside in
     let m = c.in-Some-count_within.ensures.found in
     edge_count_taken c.args.limits.now c.args.line.now c.args.self.now c.requires.due c.in-Some.count c.in-Some.ensures.found _ m.1 m.2
-    (ap (λ n. record { due = Edges n; k = s.k; allocated = s.nodes; pairs = s.pairs.items; views = s.views }) m.0
-    ∙ ap (λ (r : Reading). record r { due = Edges c.in-Some.count }) c.self.view_is)
+    (ap (λ n. record { due = EdgesLeft n; k = s.k; allocated = s.nodes; pairs = s.pairs.items; views = s.views }) m.0
+    ∙ ap (λ (r : Reading). record r { due = EdgesLeft c.in-Some.count }) c.self.view_is)
 
 pub invariant_of-self : goal.invariant_of-self
 invariant_of-self c =
