@@ -45,7 +45,7 @@ abbrev pub extents_text : Shape → (ℕ → ℕ → Bool) → List ℕ
 extents_text s r =
     codes "blocks " ++ decimal (block_total s r) ++ 10 ∷ texts_below s.size (λ n. if is_first s r n then block_line s r n else [])
 
--- whether an edge are first from a node of the block of u to a node of the block of v
+-- whether an edge leads from a node of the block of u to a node of the block of v
 abbrev pub are_adjacent : Shape → (ℕ → ℕ → Bool) → ℕ → ℕ → Bool
 are_adjacent s r u v = any_below s.size (λ x. is_related s r u x && any_below s.size (λ y. is_related s r v y && s.edge x y))
 

@@ -60,7 +60,7 @@ heaviest_with most weight none kept (x ∷ xs) = heaviest_with most weight none 
 abbrev pub heaviest : {X : Type 0} → ℕ → (X → ℕ) → X → List X → List X
 heaviest most weight none xs = heaviest_with most weight none [] xs
 
--- the blocks that are drawn: those with the most nodes, and of equals those with the least least nodes
+-- the blocks that are drawn: those with the most nodes; ties go to the block with the smaller least node
 abbrev pub drawn_blocks : ℕ → Partition → List Block
 drawn_blocks most p = heaviest most (λ b. b.count) no_block (blocks_of p)
 

@@ -102,7 +102,7 @@ abbrev pub Ends : SessionOf → Option (List Step) → SessionOf → Option (Lis
 Ends s None t h reply = (t ≡ s) × (h ≡ None) × (reply ≡ misused)
 Ends s (Some c) t h reply = (h ≡ None) × Makes c s t reply
 
--- It was dropped.
+-- The group that is begun was dropped.
 abbrev pub Cancels : Option (List Step) → Option (List Step) → Reply → Type 0
 Cancels None h reply = (h ≡ None) × (reply ≡ misused)
 Cancels (Some c) h reply = (h ≡ None) × (reply ≡ said 0)
