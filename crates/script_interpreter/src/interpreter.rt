@@ -435,7 +435,7 @@ fn end<B: PathIndex>(
     requires some { IsSome group.old }
     ensures ready { IsOpenForProgram (by_meaning B.meaning engine.new) }
     ensures ok { (n : Numbers) → IfOk result (λ accepted. (g : Group) → IsKeptAs (Some g) group.old
-        → Changed Scope.Lines (state_of B.meaning engine.old n) g.steps output.old (not accepted) (state_of B.meaning engine.new n) output.new) }
+        → Changed Scope.Group (state_of B.meaning engine.old n) g.steps output.old (not accepted) (state_of B.meaning engine.new n) output.new) }
     ensures ended { OnOk result (group.new ≡ None) }
     ensures err { OnErr result (output.new ≡ output.old) }
 {
