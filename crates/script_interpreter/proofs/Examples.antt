@@ -19,7 +19,7 @@ use Rattle.path_query.specs.Labels.{IsPlainLabel, SpellsLabel}
 use Rattle.script_interpreter.specs.LineTexts.{reply, bad_line}
 use Rattle.script_read.specs.Commands.{Command, change, begin, end as end_group, insert, delete, path, branch, why, check, extents, sizes, save, forget, IsSpelled, Asks, by_path, by_branch, by_why, by_check, NoCommand}
 use Rattle.script_read.specs.FirstWords.{first_word}
-use Rattle.script_interpreter.specs.declared.group.Scope.TheVariants.{OneLine as OfLine, Group as OfGroup}
+use Rattle.script_interpreter.specs.declared.group.Scope.TheVariants.{OneLine as OfLine, LineGroup as OfGroup}
 use Rattle.script_interpreter.specs.declared.printing.Printing.TheVariants.{Whole, Brief}
 use Rattle.script_interpreter.specs.Rules.{rules_for}
 use Rattle.script_interpreter.specs.States.{State, BeginsRun}

@@ -1,4 +1,4 @@
--- Group in a group, and the steps of it that the code keeps.
+-- LineGroup in a group, and the steps of it that the code keeps.
 use Rattle.std.proofs.Common.{◌≡◌, ◌≢◌, ℕ, ◌<◌, ◌≤◌, ◌⊎◌, inl, inr, Bool, false, List, [], ◌∷◌, ◌++◌, length, take, Option, None, Some, Err, refl, sym, ap, ◌∙◌, subst, arith, append-nil}
 use Rattle.std.specs.Prelude.{nat_le, is_err}
 use Rattle.std.proofs.lemmas.Grind.{common_steps}
@@ -12,7 +12,7 @@ use Rattle.change_spec.specs.Steps.{Step, node, link, unlink, drop, relabel, app
 use Rattle.script_read.specs.Commands.{Command, change, begin, end, insert, delete, path, branch, why, check, extents, sizes, save, forget, IsQuiet, IsSpelled, PassesLimit, SpellsNothing}
 use Rattle.script_read.proofs.CommandLemmas.{keyword, begins, lead, no_query, silent, free, node_free, relabel_free, quiet_free}
 use Rattle.script_interpreter.specs.declared.group.Scope.{Scope}
-use Rattle.script_interpreter.specs.declared.group.Scope.TheVariants.{Group}
+use Rattle.script_interpreter.specs.declared.group.Scope.TheVariants.{LineGroup}
 use Rattle.script_interpreter.specs.declared.group.OpenGroup.{OpenGroup}
 use Rattle.script_interpreter.specs.Outputs.{Gathered, with_printed}
 use Rattle.script_interpreter.specs.LineTexts.{reply}
@@ -72,14 +72,14 @@ refused_makes rules scope s c d printed refuses t r e f m = record {
 }
 
 -- the change of the steps that are kept is that of the whole group
-pub kept_changed : (s : State) (steps kept : List Step) (old : Gathered) (refuses : Bool) (t : State) (new : Gathered) → kept ≡ take KEPT_STEPS steps → Changed Group s kept old refuses t new
-    → Changed Group s steps old refuses t new
+pub kept_changed : (s : State) (steps kept : List Step) (old : Gathered) (refuses : Bool) (t : State) (new : Gathered) → kept ≡ take KEPT_STEPS steps → Changed LineGroup s kept old refuses t new
+    → Changed LineGroup s steps old refuses t new
 kept_changed s steps kept old refuses t new k c =
     elim (few_or_many (length steps)) [
-      | inl few ↦ subst (λ x. Changed Group s x old refuses t new) (k ∙ few_kept steps (omega (arith, few))) c
+      | inl few ↦ subst (λ x. Changed LineGroup s x old refuses t new) (k ∙ few_kept steps (omega (arith, few))) c
       | inr many ↦ record {
         printed = c.printed;
-        makes = refused_makes (rules_for old.printing) Group s kept steps c.printed refuses t Limit
+        makes = refused_makes (rules_for old.printing) LineGroup s kept steps c.printed refuses t Limit
             (too_many kept s.graph program_limits (subst (λ x. 1024 < length x) (sym k) (many_kept steps many))) (too_many steps s.graph program_limits many) c.makes;
         gathered_is = c.gathered_is;
       }
@@ -97,7 +97,7 @@ adds_taken s number line g x old h = record { printed = []; refuses = false; tak
 pub begins_taken : (s : State) (number : ℕ) (line : List ℕ) (old : Gathered) → IsSpelled line begin → IsTaken s number line None old s (Some (record { steps = []; line = number })) old
 begins_taken s number line old h = record { printed = []; refuses = false; takes = runs.begins h; gathered_is = same_text old }
 
-pub ends_taken : (s : State) (number : ℕ) (line : List ℕ) (g : Group) (old : Gathered) (refuses : Bool) (t : State) (new : Gathered) → IsSpelled line end → Changed Group s g.steps old refuses t new
+pub ends_taken : (s : State) (number : ℕ) (line : List ℕ) (g : Group) (old : Gathered) (refuses : Bool) (t : State) (new : Gathered) → IsSpelled line end → Changed LineGroup s g.steps old refuses t new
     → IsTaken s number line (Some g) old t None new
 ends_taken s number line g old refuses t new h c = record { printed = c.printed; refuses = refuses; takes = runs.ends g c.printed refuses t h c.makes; gathered_is = c.gathered_is }
 

@@ -17,7 +17,7 @@ use Rattle.index_file.specs.WholeFiles.{HasLabels}
 use Rattle.index_file.specs.LabelledSteps.{GivesLabel, GiveLabels}
 use Rattle.index_file.proofs.LabelledGraphs.{steps_labels}
 use Rattle.script_interpreter.specs.declared.group.Scope.{Scope}
-use Rattle.script_interpreter.specs.declared.group.Scope.TheVariants.{OneLine as OfLine, Group as OfGroup}
+use Rattle.script_interpreter.specs.declared.group.Scope.TheVariants.{OneLine as OfLine, LineGroup as OfGroup}
 use Rattle.script_interpreter.specs.Rules.{Rules}
 use Rattle.script_interpreter.specs.States.{State}
 use Rattle.script_interpreter.specs.Runs.{Becomes, Makes, Obeys, changes, inserts, deletes, misses, asks_path, asks_branch, explains, checks, lists, measures, saves, forgets, lacks, Does, nothing, over, command, Progress, Group, start, TakesLine, outside, begins, silent, adds, ends, RunsLine, RunsLines}

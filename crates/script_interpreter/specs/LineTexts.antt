@@ -9,7 +9,7 @@ use Rattle.graph_update.specs.declared.staging.Applied.{Applied}
 use Rattle.graph_update.specs.StagedChanges.{applied_of}
 use Rattle.extent_report.specs.ListedBlocks.{texts_below}
 use Rattle.script_interpreter.specs.declared.group.Scope.{Scope}
-use Rattle.script_interpreter.specs.declared.group.Scope.TheVariants.{OneLine, Group}
+use Rattle.script_interpreter.specs.declared.group.Scope.TheVariants.{OneLine, LineGroup}
 use Rattle.script_interpreter.specs.declared.printing.Printing.{Printing}
 use Rattle.script_interpreter.specs.Rules.{if_whole}
 
@@ -33,7 +33,7 @@ added_lines a = texts_below a.added (λ i. added_line (a.first + i))
 -- numbers, and then that it is made.
 abbrev pub made_lines : Scope → Applied → List ℕ
 made_lines OneLine a = if nat_eq a.added 0 then ok_line else added_lines a
-made_lines Group a = added_lines a ++ ok_line
+made_lines LineGroup a = added_lines a ++ ok_line
 
 -- what a change prints, from the graph before it and its outcome
 abbrev pub reply : Printing → Scope → List Step → Graph → Result Graph Refusal → List ℕ

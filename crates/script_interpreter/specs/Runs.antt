@@ -19,7 +19,7 @@ use Rattle.triples_read.specs.declared.term.Triple.{Triple}
 use Rattle.triple_names.specs.Names.{AreSameNames}
 use Rattle.triple_names.specs.TripleChanges.{insert_steps, placed_in, noted, delete_change}
 use Rattle.script_interpreter.specs.declared.group.Scope.{Scope}
-use Rattle.script_interpreter.specs.declared.group.Scope.TheVariants.{OneLine as OfLine, Group as OfGroup}
+use Rattle.script_interpreter.specs.declared.group.Scope.TheVariants.{OneLine as OfLine, LineGroup as OfGroup}
 use Rattle.script_interpreter.specs.LineTexts.{reply, refused_line, ok_line, bad_line}
 use Rattle.script_interpreter.specs.States.{State, keeps, forgotten}
 use Rattle.script_interpreter.specs.Indexes.{ShowsAnswers, ShowsExtents, ShowsSizes, ShowsFile}

@@ -85,7 +85,7 @@ pub(crate) fn insert<B: PathIndex>(
 {
     let (change, placed) = insert_change(alloc, names, engine.graph(), &triple)?;
     names.stage(alloc, &triple)?;
-    let accepted = make(alloc, engine, change, Scope::Group, output)?;
+    let accepted = make(alloc, engine, change, Scope::LineGroup, output)?;
     if !accepted {
         return Ok(());
     }
@@ -109,7 +109,7 @@ pub(crate) fn delete<B: PathIndex>(
 {
     match delete_change(alloc, names, engine.graph(), triple) {
         Ok(change) => {
-            make(alloc, engine, change, Scope::Group, output)?;
+            make(alloc, engine, change, Scope::LineGroup, output)?;
             Ok(())
         }
         Err(DeleteError::NoNode) => output.refuse(Refusal::NoNode),

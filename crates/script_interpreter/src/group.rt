@@ -16,7 +16,7 @@ pub(crate) enum Scope {
     /// It is a line of its own.
     OneLine,
     /// It is a group of lines.
-    Group,
+    LineGroup,
 }
 
 /// A group that isn't ended.

@@ -435,12 +435,12 @@ fn end<B: PathIndex>(
     requires some { IsSome group.old }
     ensures ready { IsOpenForProgram (by_meaning B.meaning engine.new) }
     ensures ok { (n : Numbers) → IfOk result (λ accepted. (g : Group) → IsKeptAs (Some g) group.old
-        → Changed Scope.Group (state_of B.meaning engine.old n) g.steps output.old (not accepted) (state_of B.meaning engine.new n) output.new) }
+        → Changed Scope.LineGroup (state_of B.meaning engine.old n) g.steps output.old (not accepted) (state_of B.meaning engine.new n) output.new) }
     ensures ended { OnOk result (group.new ≡ None) }
     ensures err { OnErr result (output.new ≡ output.old) }
 {
     match group.take() {
-        Some(open) => make(alloc, engine, open.change, Scope::Group, output),
+        Some(open) => make(alloc, engine, open.change, Scope::LineGroup, output),
         None => unreachable!(),
     }
 }

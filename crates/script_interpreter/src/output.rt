@@ -184,7 +184,7 @@ fn push_some(out: &mut Vec<u8>, applied: Applied, scope: Scope) -> Result<(), Me
 {
     match scope {
         Scope::OneLine => push_one(out, applied),
-        Scope::Group => push_all(out, applied),
+        Scope::LineGroup => push_all(out, applied),
     }
 }
 
