@@ -1,4 +1,4 @@
--- LineGroup in a group, and the steps of it that the code keeps.
+-- Lines in a group, and the steps of it that the code keeps.
 use Rattle.std.proofs.Common.{◌≡◌, ◌≢◌, ℕ, ◌<◌, ◌≤◌, ◌⊎◌, inl, inr, Bool, false, List, [], ◌∷◌, ◌++◌, length, take, Option, None, Some, Err, refl, sym, ap, ◌∙◌, subst, arith, append-nil}
 use Rattle.std.specs.Prelude.{nat_le, is_err}
 use Rattle.std.proofs.lemmas.Grind.{common_steps}
