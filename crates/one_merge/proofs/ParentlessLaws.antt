@@ -134,13 +134,18 @@ label_settled q d parentless b l label own noted h =
     subst (λ m. IsNoted parentless m b) (let same : l ≡ label = cc in same) noted
 
 -- where those of the touched blocks are noted, and the others have the labels and the parents of the base
-pub covers_touched : (q : Quotient) (d : Drafted) (parentless parentless2 : ParentlessLists) (touched : List ℕ) → CoversBase q parentless → ((l c : ℕ) → IsNoted parentless l c → IsNoted parentless2 l c)
-    → ((b : ℕ) → has touched b ≡ false → at (shown_labels q d) b ≡ at q.blocks.labels b) → ((a b : ℕ) → has touched b ≡ false → shown_support q d a b ≡ support_at q.supports a b)
-    → ((b l : ℕ) → IsTrue (has touched b) → at (settled_view q d).labels b ≡ Some l → IsParentless (shown_support q d) b → IsNoted parentless2 l b) → CoversShown q d parentless2
-covers_touched q d parentless parentless2 touched covers kept labels supports noted = record {
-  each = λ b l h k. elim (cases_Bool (has touched b)) [
-    | inl there ↦ noted b l there h k
-    | inr off ↦ kept l b (covers.each b l (sym (labels b off) ∙ labels_kept (shown_blocks q d) 0 (shown_labels q d) b l h) (λ a ne. sym (supports a b off) ∙ k a ne))
+pub covers_drafted : (q : Quotient) (d : Drafted) (parentless parentless2 parentless3 : ParentlessLists) (blocks ends : List ℕ) → CoversBase q parentless
+    → ((l c : ℕ) → IsNoted parentless l c → IsNoted parentless2 l c) → ((l c : ℕ) → IsNoted parentless2 l c → IsNoted parentless3 l c)
+    → ((b : ℕ) → has blocks b ≡ false → at (shown_labels q d) b ≡ at q.blocks.labels b) → ((a b : ℕ) → has ends b ≡ false → shown_support q d a b ≡ support_at q.supports a b)
+    → ((b l : ℕ) → IsTrue (has blocks b) → at (settled_view q d).labels b ≡ Some l → IsParentless (shown_support q d) b → IsNoted parentless2 l b)
+    → ((b l : ℕ) → IsTrue (has ends b) → at (settled_view q d).labels b ≡ Some l → IsParentless (shown_support q d) b → IsNoted parentless3 l b) → CoversShown q d parentless3
+covers_drafted q d parentless parentless2 parentless3 blocks ends covers kept kept2 labels supports noted noted2 = record {
+  each = λ b l h k. elim (cases_Bool (has blocks b)) [
+    | inl there ↦ kept2 l b (noted b l there h k)
+    | inr old ↦ elim (cases_Bool (has ends b)) [
+      | inl there ↦ noted2 b l there h k
+      | inr off ↦ kept2 l b (kept l b (covers.each b l (sym (labels b old) ∙ labels_kept (shown_blocks q d) 0 (shown_labels q d) b l h) (λ a ne. sym (supports a b off) ∙ k a ne)))
+    ]
   ];
 }
 

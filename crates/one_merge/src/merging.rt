@@ -146,7 +146,7 @@ pub fn merge(
     ensures supports { OnOk result (StayEdgeCounts base.now draft.old draft.new) }
     ensures block_labels { OnOk result (LabelsStayRight base.now draft.old draft.new) }
 {
-    parentless.note_touched(alloc, base, draft)?;
+    parentless.note_touched(base, draft)?;
     let mut worklist = MergeCandidates::new(alloc);
     worklist.add_all(merge_candidates)?;
     let mut buffers = Buffers::new(alloc);
