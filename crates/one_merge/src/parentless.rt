@@ -58,12 +58,11 @@ impl ParentlessBlocks {
         self.further > self.made.saturating_add(64)
     }
 
-    /// Adds to the list the blocks that are noted for a label. Linear in these.
-    pub(crate) fn add_to(&self, label: u32, list: &mut Vec<u32>) -> Result<(), Memory>
-        ensures { OnOk result (list.new.items ≡ list.old.items ++ listed self.now label) }
+    /// The blocks that are noted for a label. Expected O(1).
+    pub(crate) fn noted(&self, label: u32) -> &[u32]
+        ensures { result.now ≡ listed self.now label }
     {
-        list.extend_from_slice(blocks_of(&self.lists, label))?;
-        Ok(())
+        blocks_of(&self.lists, label)
     }
 
     /// Notes the parentless blocks that a draft brings, so that all parentless blocks of the base once it is settled
