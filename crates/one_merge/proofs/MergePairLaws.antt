@@ -1,11 +1,12 @@
 -- What the tables say of pairs that can be merged.
-use Rattle.std.proofs.Common.{◌≡◌, ◌≢◌, ℕ, zero, suc, ◌+◌, ◌<◌, ◌≤◌, ◌⊎◌, List, [], ◌∷◌, length, take, Option, Some, None, IsTrue, refl, sym, ◌∙◌, ap, subst, arith, inl, inr, true, false, Bool, true≢false}
+use Rattle.std.proofs.Common.{◌≡◌, ◌≢◌, ℕ, zero, suc, ◌+◌, ◌<◌, ◌≤◌, ◌⊎◌, List, [], ◌∷◌, ◌++◌, length, take, Option, Some, None, IsTrue, refl, sym, ◌∙◌, ap, subst, arith, inl, inr, true, false, Bool, true≢false}
 use Rattle.std.specs.Prelude.{nat_eq, nat_lt, ◌||◌, ◌&&◌, not, IfNone, IfSome, get_or}
 use Rattle.std.specs.List.{list_any, IsDistinct}
 use Rattle.std.specs.Cmp.{nat_eq_equiv}
 use Rattle.std.proofs.lemmas.Bool.{cases_Bool, both_ways, or_cases, or_left, or_right, and_parts}
 use Rattle.std.proofs.lemmas.Bool.Decides.{Decides-eqb}
 use Rattle.std.proofs.lemmas.List.{take_all}
+use Rattle.std.proofs.lemmas.List.Folds.{list_any-append}
 use Rattle.std.proofs.lemmas.Map.Made.{length-le_from_is_member}
 use Rattle.graph_spec.specs.Members.{has, at, Lists}
 use Rattle.graph_spec.specs.Shapes.{Shape}
@@ -132,6 +133,15 @@ pub take_end : (xs : List ℕ) (i n : ℕ) → length xs ≤ i → IsTrue (has x
 take_end xs i n over h = ap (λ ys. has ys n) (take_all i xs over) ∙ h
 
 -- numbers in lists
+
+-- what holds of two lists holds of both together
+pub none_either : (first second : Option ℕ) (P : ℕ → Type 0) (xs ys : List ℕ) → first ≡ None → IfNone first ((b : ℕ) → IsTrue (has xs b) → P b) → IfNone second ((b : ℕ) → IsTrue (has ys b) → P b)
+    → IfNone second ((b : ℕ) → IsTrue (has (xs ++ ys) b) → P b)
+none_either first None P xs ys e one two = λ b h. elim (or_cases (has xs b) (has ys b) (sym (list_any-append (nat_eq b) xs ys) ∙ h)) [
+  | inl k ↦ if_none first ((c : ℕ) → IsTrue (has xs c) → P c) e one b k
+  | inr k ↦ two b k
+]
+none_either first (Some x) P xs ys e one two = two
 
 -- a candidate is the one that was taken off, or one still
 taken_cases : (xs ys : List ℕ) (a n : ℕ) → ((c : ℕ) → has ys c ≡ (has xs c || nat_eq c a)) → has ys n ≡ true → (has xs n ≡ true) ⊎ (n ≡ a)

@@ -1,9 +1,10 @@
 -- Blocks to which no other block has support.
-use Rattle.std.proofs.Common.{◌≡◌, ◌≢◌, ℕ, zero, suc, ◌+◌, List, [], ◌∷◌, Option, Some, None, IsTrue, is_some, refl, sym, ◌∙◌, ap, subst, arith, inl, inr, true, false, Bool, count_by, true≢false}
+use Rattle.std.proofs.Common.{◌≡◌, ◌≢◌, ℕ, zero, suc, ◌+◌, List, [], ◌∷◌, ◌++◌, Option, Some, None, IsTrue, is_some, refl, sym, ◌∙◌, ap, subst, arith, inl, inr, true, false, Bool, count_by, true≢false}
 use Rattle.std.specs.Prelude.{nat_eq, nat_lt, cond, slice_index_or, IfNone}
 use Rattle.std.specs.List.{list_all, position, swap_remove}
 use Rattle.std.proofs.lemmas.Bool.{cases_Bool, both_ways, or_cases, or_left, or_right, and_from}
 use Rattle.std.proofs.lemmas.Bool.Decides.{Decides-eqb, Decides-ltb, eqb_tells}
+use Rattle.std.proofs.lemmas.List.Folds.{list_any-append}
 use Rattle.std.proofs.lemmas.List.Quantifiers.{position-Some}
 use Rattle.std.proofs.lemmas.List.Sorted.{IsPermutation-swap_remove, list_any-IsPermutation}
 use Rattle.graph_spec.specs.Members.{has, at, is_this, Lists}
@@ -16,6 +17,7 @@ use Rattle.one_spec.proofs.MergeCandidates.{shared_parent_alone}
 use Rattle.one_spec.proofs.MergedPairs.{unmerged, merged_gone}
 use Rattle.quotient.specs.Quotients.{Quotient}
 use Rattle.quotient_draft.specs.Drafts.{Drafted, has_member, inhabited_from, settled_view, shown_blocks, shown_labels, shown_support}
+use Rattle.quotient_draft.specs.PairEnds.{listed}
 use Rattle.one_merge.specs.MergeTests.{shown_adjacent}
 use Rattle.one_merge.specs.Merged.{merged_support, with_column}
 use Rattle.one_merge.specs.MergeableShown.{ShowsStablePartition, AreShownNotMergeable}
@@ -42,6 +44,14 @@ settled_label q d n b l there h =
 pub record AreCandidates (support : ℕ → ℕ → ℕ) (parentless : ParentlessLists) (a label : ℕ) (list : List ℕ) : Type 0 where
   pub children : IsTrue (nat_lt 0 (support a a)) → (b : ℕ) → IsTrue (nat_lt 0 (support a b)) → IsTrue (has list b)
   pub noted : (b : ℕ) → IsNoted parentless label b → IsTrue (has list b)
+
+-- the children, where a is one of them, and then the noted blocks
+pub candidates_both : (support : ℕ → ℕ → ℕ) (parentless : ParentlessLists) (a label : ℕ) (list own noted : List ℕ)
+    → (IsTrue (nat_lt 0 (support a a)) → (b : ℕ) → IsTrue (nat_lt 0 (support a b)) → IsTrue (has list b)) → own ≡ list → noted ≡ listed parentless label → AreCandidates support parentless a label (own ++ noted)
+candidates_both support parentless a label list own noted children own_is noted_is = record {
+  children = λ k b h. list_any-append (nat_eq b) own noted ∙ or_left (has own b) (has noted b) (ap (λ xs. has xs b) own_is ∙ children k b h);
+  noted = λ b h. list_any-append (nat_eq b) own noted ∙ or_right (has own b) (has noted b) (ap (λ xs. has xs b) noted_is ∙ h);
+}
 
 -- where a block is a parent of the block with which it can be merged, it has a parent itself
 mergeable_back : (s : Shape) (p : List (Option ℕ)) (a b : ℕ) → IsMergeablePair s p a b → IsChildBlock s p a b → (z : ℕ) × IsChildBlock s p z a
@@ -134,13 +144,18 @@ label_settled q d parentless b l label own noted h =
     subst (λ m. IsNoted parentless m b) (let same : l ≡ label = cc in same) noted
 
 -- where those of the touched blocks are noted, and the others have the labels and the parents of the base
-pub covers_touched : (q : Quotient) (d : Drafted) (parentless parentless2 : ParentlessLists) (touched : List ℕ) → CoversBase q parentless → ((l c : ℕ) → IsNoted parentless l c → IsNoted parentless2 l c)
-    → ((b : ℕ) → has touched b ≡ false → at (shown_labels q d) b ≡ at q.blocks.labels b) → ((a b : ℕ) → has touched b ≡ false → shown_support q d a b ≡ support_at q.supports a b)
-    → ((b l : ℕ) → IsTrue (has touched b) → at (settled_view q d).labels b ≡ Some l → IsParentless (shown_support q d) b → IsNoted parentless2 l b) → CoversShown q d parentless2
-covers_touched q d parentless parentless2 touched covers kept labels supports noted = record {
-  each = λ b l h k. elim (cases_Bool (has touched b)) [
-    | inl there ↦ noted b l there h k
-    | inr off ↦ kept l b (covers.each b l (sym (labels b off) ∙ labels_kept (shown_blocks q d) 0 (shown_labels q d) b l h) (λ a ne. sym (supports a b off) ∙ k a ne))
+pub covers_drafted : (q : Quotient) (d : Drafted) (parentless parentless2 parentless3 : ParentlessLists) (blocks ends : List ℕ) → CoversBase q parentless
+    → ((l c : ℕ) → IsNoted parentless l c → IsNoted parentless2 l c) → ((l c : ℕ) → IsNoted parentless2 l c → IsNoted parentless3 l c)
+    → ((b : ℕ) → has blocks b ≡ false → at (shown_labels q d) b ≡ at q.blocks.labels b) → ((a b : ℕ) → has ends b ≡ false → shown_support q d a b ≡ support_at q.supports a b)
+    → ((b l : ℕ) → IsTrue (has blocks b) → at (settled_view q d).labels b ≡ Some l → IsParentless (shown_support q d) b → IsNoted parentless2 l b)
+    → ((b l : ℕ) → IsTrue (has ends b) → at (settled_view q d).labels b ≡ Some l → IsParentless (shown_support q d) b → IsNoted parentless3 l b) → CoversShown q d parentless3
+covers_drafted q d parentless parentless2 parentless3 blocks ends covers kept kept2 labels supports noted noted2 = record {
+  each = λ b l h k. elim (cases_Bool (has blocks b)) [
+    | inl there ↦ kept2 l b (noted b l there h k)
+    | inr old ↦ elim (cases_Bool (has ends b)) [
+      | inl there ↦ noted2 b l there h k
+      | inr off ↦ kept2 l b (kept l b (covers.each b l (sym (labels b old) ∙ labels_kept (shown_blocks q d) 0 (shown_labels q d) b l h) (λ a ne. sym (supports a b off) ∙ k a ne)))
+    ]
   ];
 }
 

@@ -1,12 +1,12 @@
 // With which block one can be merged.
-ghost use Rattle.std.specs.Prelude.{◌≡◌, ◌≢◌, ◌⊎◌, ◌&&◌, ℕ, Some, None, IsTrue, IsFalse, IfSome, IfNone, IfOk, OnOk, not, nat_eq, false};
+ghost use Rattle.std.specs.Prelude.{◌≡◌, ◌≢◌, ◌⊎◌, ◌&&◌, ◌++◌, ℕ, Some, None, IsTrue, IsFalse, IfSome, IfNone, IfOk, OnOk, not, nat_eq, false};
 ghost use Rattle.std.specs.List.{list_any};
 ghost use Rattle.graph_spec.specs.Members.{at, has};
 ghost use Rattle.quotient_draft.specs.Drafts.{shown_labels, shown_blocks, shown_support};
 ghost use Rattle.quotient_draft.specs.Basis.{IsOver};
 ghost use Rattle.one_merge.specs.MergeTests.{shown_adjacent};
 ghost use Rattle.one_merge.specs.ShownMerges.{ShowsSupportsOfGraph, AreShownMergeable, AreShownNotMergeable, AreDraftedParents, HasNoOther, ListsOwnChildren};
-ghost use Rattle.one_merge.specs.ParentlessBlocks.{IsNoted, CoversShown};
+ghost use Rattle.one_merge.specs.ParentlessBlocks.{CoversShown};
 
 use crate::kept_blocks::KeptBlocks;
 use crate::members::{children_count, has_members};
@@ -205,22 +205,24 @@ fn fill_own_children(
     Ok(())
 }
 
-// Lists the blocks that may be merged with a block that has no other parent than itself: its children where it is one of them,
-// and the blocks noted for its label.
-fn fill_candidates(
+// A block in one of two lists with which the first can be merged.
+fn find_in_either(
     base: &Summary,
     draft: &Draft,
-    parentless: &ParentlessBlocks,
     a: u32,
-    label: u32,
-    list: &mut Vec<u32>,
-) -> Result<(), Memory>
-    ensures children { OnOk result (ListsOwnChildren base.now draft.now a list.new.items) }
-    ensures noted { OnOk result ((b : ℕ) → IsNoted parentless.now label b → IsTrue (has list.new.items b)) }
+    list: &[u32],
+    others: &[u32],
+) -> Option<u32>
+    requires over { IsOver base.now.blocks.block_of base.now.blocks.labels draft.now }
+    requires graph { ShowsSupportsOfGraph base.now draft.now }
+    requires members { (n : ℕ) × (at (shown_blocks base.now draft.now) n ≡ Some a) }
+    ensures some { IfSome result (AreShownMergeable base.now draft.now a) }
+    ensures none { IfNone result ((b : ℕ) → IsTrue (has (list.now ++ others.now) b) → AreShownNotMergeable base.now draft.now a b) }
 {
-    fill_own_children(base, draft, a, list)?;
-    parentless.add_to(label, list)?;
-    Ok(())
+    match find_among(base, draft, a, list) {
+        Some(b) => Some(b),
+        None => find_among(base, draft, a, others),
+    }
 }
 
 // The block of the hint, where there is one and the first can be merged with it.
@@ -238,7 +240,8 @@ fn find_kept(base: &Summary, draft: &Draft, a: u32, label: u32, hint: Option<u32
     None
 }
 
-// A block that can be merged with one that has no other parent than itself.
+// A block that can be merged with one that has no other parent than itself: one of its children where it is one of them, or
+// of the blocks noted for its label.
 fn find_mergeable_lone(
     base: &Summary,
     draft: &Draft,
@@ -259,9 +262,10 @@ fn find_mergeable_lone(
     if let Some(b) = find_kept(base, draft, a, label, kept.ask(None, label)) {
         return Ok(Some(b));
     }
-    fill_candidates(base, draft, parentless, a, label, list)?;
-    kept.look_through(list.len());
-    Ok(find_among(base, draft, a, list))
+    fill_own_children(base, draft, a, list)?;
+    let noted = parentless.noted(label);
+    kept.look_through(list.len().saturating_add(noted.len()));
+    Ok(find_in_either(base, draft, a, list, noted))
 }
 
 // A block that can be merged with a block, among another parent of it and the children of that parent.

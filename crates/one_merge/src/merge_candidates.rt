@@ -8,7 +8,7 @@ use std::alloc::Global;
 use std::marker::Model;
 
 /// Blocks that may be merged with others. They are taken off in rounds: what is added meanwhile comes in the next one, in
-/// which each block stands once.
+/// which each block stands once. A block that is added after the last of a round comes first.
 #[derive(Drop)]
 pub(crate) struct MergeCandidates {
     round: Vec<u32>,
@@ -24,12 +24,13 @@ impl Model for MergeCandidates {
 }
 
 impl MergeCandidates {
-    pub(crate) fn new(alloc: Global) -> MergeCandidates
-        ensures { result ≡ [] }
+    /// These blocks, in their own memory.
+    pub(crate) fn of(alloc: Global, blocks: Vec<u32>) -> MergeCandidates
+        ensures { (c : ℕ) → has result c ≡ has blocks.items c }
     {
         MergeCandidates {
             round: Vec::new(alloc),
-            next: Vec::new(alloc),
+            next: blocks,
         }
     }
 
@@ -37,7 +38,11 @@ impl MergeCandidates {
     pub(crate) fn add(&mut self, b: u32) -> Result<(), Memory>
         ensures { OnOk result ((c : ℕ) → has self.new c ≡ (has self.old c || nat_eq c b)) }
     {
-        self.next.push(b)?;
+        if self.round.is_empty() {
+            self.round.push(b)?;
+        } else {
+            self.next.push(b)?;
+        }
         Ok(())
     }
 

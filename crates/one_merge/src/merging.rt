@@ -134,7 +134,7 @@ pub fn merge(
     base: &Summary,
     draft: &mut Draft,
     parentless: &mut ParentlessBlocks,
-    merge_candidates: &[u32],
+    merge_candidates: Vec<u32>,
 ) -> Result<(), Memory>
     requires over { IsOver base.now.blocks.block_of base.now.blocks.labels draft.old }
     requires graph { ShowsSupportsOfGraph base.now draft.old }
@@ -142,13 +142,12 @@ pub fn merge(
     ensures covers { CoversBase base.now parentless.new }
     ensures shown { OnOk result (CoversShown base.now draft.new parentless.new) }
     ensures over { OnOk result (IsOver base.now.blocks.block_of base.now.blocks.labels draft.new) }
-    ensures merged { OnOk result (MergesToEnd base.now draft.old draft.new merge_candidates.now) }
+    ensures merged { OnOk result (MergesToEnd base.now draft.old draft.new merge_candidates.items) }
     ensures supports { OnOk result (StayEdgeCounts base.now draft.old draft.new) }
     ensures block_labels { OnOk result (LabelsStayRight base.now draft.old draft.new) }
 {
-    parentless.note_touched(alloc, base, draft)?;
-    let mut worklist = MergeCandidates::new(alloc);
-    worklist.add_all(merge_candidates)?;
+    parentless.note_touched(base, draft)?;
+    let mut worklist = MergeCandidates::of(alloc, merge_candidates);
     let mut buffers = Buffers::new(alloc);
     merge_pairs(base, draft, parentless, &mut worklist, &mut buffers)?;
     Ok(())

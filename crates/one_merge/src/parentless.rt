@@ -58,32 +58,24 @@ impl ParentlessBlocks {
         self.further > self.made.saturating_add(64)
     }
 
-    /// Adds to the list the blocks that are noted for a label. Linear in these.
-    pub(crate) fn add_to(&self, label: u32, list: &mut Vec<u32>) -> Result<(), Memory>
-        ensures { OnOk result (list.new.items ≡ list.old.items ++ listed self.now label) }
+    /// The blocks that are noted for a label. Expected O(1).
+    pub(crate) fn noted(&self, label: u32) -> &[u32]
+        ensures { result.now ≡ listed self.now label }
     {
-        list.extend_from_slice(blocks_of(&self.lists, label))?;
-        Ok(())
+        blocks_of(&self.lists, label)
     }
 
     /// Notes the parentless blocks that a draft brings, so that all parentless blocks of the base once it is settled
     /// are noted. Expected O(t + p + r) for t blocks that the draft touches, with p parents in the base and as drafted,
-    /// and r blocks that are noted for a label of such a block. It takes 4 to 8 bytes for each touched block, and as
-    /// much for each that is noted.
-    pub fn note_touched(
-        &mut self,
-        alloc: Global,
-        base: &Summary,
-        draft: &Draft,
-    ) -> Result<(), Memory>
+    /// and r blocks that are noted for a label of such a block. It takes 4 to 8 bytes for each that is noted.
+    pub fn note_touched(&mut self, base: &Summary, draft: &Draft) -> Result<(), Memory>
         requires over { IsOver base.now.blocks.block_of base.now.blocks.labels draft.now }
         requires covers { CoversBase base.now self.old }
         ensures kept { CoversBase base.now self.new }
         ensures shown { OnOk result (CoversShown base.now draft.now self.new) }
     {
-        let mut touched = Vec::new(alloc);
-        draft.add_touched(&mut touched)?;
-        self.note_parentless(base, draft, &touched)?;
+        self.note_parentless(base, draft, draft.drafted_blocks())?;
+        self.note_parentless(base, draft, draft.drafted_ends())?;
         Ok(())
     }
 

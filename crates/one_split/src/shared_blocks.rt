@@ -11,7 +11,11 @@ use crate::keys::own_block;
 use px_base::{Memory, NodeId};
 use quotient::Summary;
 use quotient_draft::Draft;
+use smallvec::SmallVec;
 use std::alloc::Global;
+
+/// A list of nodes, up to four without memory of their own.
+pub(crate) type FewNodes = SmallVec<NodeId, 4>;
 
 // Whether a node shares its block with another one.
 fn is_in_shared_block(base: &Summary, draft: &Draft, n: NodeId) -> bool
@@ -25,7 +29,7 @@ fn is_in_shared_block(base: &Summary, draft: &Draft, n: NodeId) -> bool
 }
 
 /// Puts a node behind the list, if it is to stay.
-pub(crate) fn push_if(list: &mut Vec<NodeId>, n: NodeId, stays: bool) -> Result<(), Memory>
+pub(crate) fn push_if(list: &mut FewNodes, n: NodeId, stays: bool) -> Result<(), Memory>
     ensures { OnOk result (list.new.items ≡ (if stays then list.old.items ++ n ∷ [] else list.old.items)) }
 {
     if stays {
@@ -40,13 +44,13 @@ pub(crate) fn in_shared_blocks(
     base: &Summary,
     draft: &Draft,
     nodes: &[NodeId],
-) -> Result<Vec<NodeId>, Memory>
+) -> Result<FewNodes, Memory>
     requires over { IsOver base.now.blocks.block_of base.now.blocks.labels draft.now }
     requires live { MembersHaveLabels (shown_blocks base.now draft.now) (at (shown_labels base.now draft.now)) }
     requires blocks { (n : ℕ) → IsTrue (has nodes.now n) → IsSome (at (shown_blocks base.now draft.now) n) }
     ensures { IfOk result (λ list. list.items ≡ filter (shares_block (shown_blocks base.now draft.now)) nodes.now) }
 {
-    let mut list = Vec::new(alloc);
+    let mut list = FewNodes::new(alloc);
     for n in nodes {
         push_if(&mut list, *n, is_in_shared_block(base, draft, *n))?;
     }

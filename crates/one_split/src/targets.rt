@@ -17,7 +17,7 @@ ghost use Rattle.one_split.specs.RoundStates.{ShowsPartition, ShowsRightLabels};
 use crate::keys::own_block;
 use crate::next_nodes::NextNodes;
 use crate::rounds::{is_done, round};
-use crate::shared_blocks::push_if;
+use crate::shared_blocks::{FewNodes, push_if};
 use crate::target_blocks::draft_block;
 use graph_update::After;
 use key_table::sort_dedup;
@@ -34,14 +34,14 @@ fn with_blocks(
     base: &Summary,
     draft: &Draft,
     targets: &[NodeId],
-) -> Result<Vec<NodeId>, Memory>
+) -> Result<FewNodes, Memory>
     requires over { IsOver base.now.blocks.block_of base.now.blocks.labels draft.now }
     requires once { IsDistinct nat_eq targets.now }
     ensures once { IfOk result (λ list. IsDistinct nat_eq list.items) }
     ensures those { IfOk result (λ list. (n : ℕ) → has list.items n ≡ (has targets.now n && is_some (at (shown_blocks base.now draft.now) n))) }
     ensures live { OnOk result (HaveLiveBlocks targets.now base.now draft.now) }
 {
-    let mut list = Vec::new(alloc);
+    let mut list = FewNodes::new(alloc);
     for t in targets {
         push_if(&mut list, *t, draft.block_of(base, *t).is_some())?;
     }

@@ -105,7 +105,7 @@ fn add_edge<L: Ledger>(
     ensures free { IsSupported (view_of base.now) u v → steps.new ≡ steps.old }
 {
     if draft_link(base, draft, after, u, v)? {
-        parentless.note_touched(alloc, base, draft)?;
+        parentless.note_touched(base, draft)?;
         return Ok(());
     }
     resettle(alloc, base, draft, parentless, after, &[v], steps)
@@ -132,7 +132,7 @@ fn drop_edge<L: Ledger>(
     ensures cost { steps.new ≤ steps.old + most_steps after.now.before after.now.change }
 {
     if draft_unlink(base, draft, after, u, v, steps)? {
-        parentless.note_touched(alloc, base, draft)?;
+        parentless.note_touched(base, draft)?;
         return Ok(());
     }
     resettle(alloc, base, draft, parentless, after, &[v], steps)

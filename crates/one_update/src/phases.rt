@@ -88,6 +88,6 @@ pub fn merge<L: Ledger>(
     let mut blocks = Vec::new(alloc);
     add_blocks(base, draft, &nodes, &mut blocks)?;
     let mut parentless = ParentlessBlocks::of(alloc, base)?;
-    one_merge::merge(alloc, base, draft, &mut parentless, &blocks)?;
+    one_merge::merge(alloc, base, draft, &mut parentless, blocks)?;
     Ok(())
 }

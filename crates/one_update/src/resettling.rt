@@ -73,6 +73,6 @@ pub(crate) fn resettle<L: Ledger>(
     let mut blocks = Vec::new(alloc);
     split(alloc, base, draft, after, targets, &mut blocks, steps)?;
     add_blocks(base, draft, targets, &mut blocks)?;
-    merge(alloc, base, draft, parentless, &blocks)?;
+    merge(alloc, base, draft, parentless, blocks)?;
     Ok(())
 }

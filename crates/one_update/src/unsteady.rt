@@ -13,14 +13,17 @@ use crate::linking::has_parent_in;
 use graph_effects::Effects;
 use graph_update::After;
 use indexmap::IndexSet;
-use key_table::sort_dedup;
 use px_base::{Memory, NodeId, Steps};
 use quotient::Summary;
+use smallvec::SmallVec;
 use std::alloc::Global;
 use std::sync::ledger::Ledger;
 
+/// A list of nodes, up to four without memory of their own.
+type FewNodes = SmallVec<NodeId, 4>;
+
 // The node is noted where it is wanted.
-fn note_if(nodes: &mut Vec<NodeId>, n: NodeId, wanted: bool) -> Result<(), Memory>
+fn note_if(nodes: &mut FewNodes, n: NodeId, wanted: bool) -> Result<(), Memory>
     ensures { OnOk result (nodes.new.items ≡ nodes.old.items ++ node_if wanted n) }
 {
     if wanted {
@@ -44,7 +47,7 @@ fn is_supported(base: &Summary, u: NodeId, v: NodeId) -> bool
 
 // The ends of edges that go are noted, where they are nodes after the change.
 fn note_lost(
-    nodes: &mut Vec<NodeId>,
+    nodes: &mut FewNodes,
     lost: &[(NodeId, NodeId)],
     after: &After<'_>,
 ) -> Result<(), Memory>
@@ -142,7 +145,7 @@ fn unkept<L: Ledger>(
 
 // The ends of edges that come are noted, but for edges between blocks that have support.
 fn note_unsupported(
-    nodes: &mut Vec<NodeId>,
+    nodes: &mut FewNodes,
     added: &[(NodeId, NodeId)],
     base: &Summary,
 ) -> Result<(), Memory>
@@ -164,14 +167,23 @@ fn list_unsteady(
     after: &After<'_>,
     effects: &Effects,
     left: &[(NodeId, NodeId)],
-) -> Result<Vec<NodeId>, Memory>
+) -> Result<FewNodes, Memory>
     ensures { IfOk result (λ nodes. nodes.items ≡ unsteady_nodes base.now (graph_after after.now) effects.now left.now) }
 {
-    let mut nodes = effects.came().to_vec(alloc)?;
+    let mut nodes = FewNodes::from_slice(alloc, effects.came())?;
     nodes.extend_from_slice(effects.relabelled())?;
     note_lost(&mut nodes, left, after)?;
     note_unsupported(&mut nodes, effects.added(), base)?;
     Ok(nodes)
+}
+
+// Keeps each of the nodes once.
+fn keep_once(nodes: &mut FewNodes)
+    ensures once { IsDistinct nat_eq nodes.new.items }
+    ensures same { (n : ℕ) → has nodes.new.items n ≡ has nodes.old.items n }
+{
+    nodes.sort_unstable();
+    nodes.dedup();
 }
 
 /// The nodes at which a change may leave the partition unstable, each once: those that come, those that get another label,
@@ -183,7 +195,7 @@ pub(crate) fn unsteady<L: Ledger>(
     after: &After<'_>,
     effects: &Effects,
     steps: &mut Steps<L>,
-) -> Result<Vec<NodeId>, Memory>
+) -> Result<FewNodes, Memory>
     requires before { IsBefore after.now base.now }
     ensures once { IfOk result (λ list. IsDistinct nat_eq list.items) }
     ensures same { IfOk result (λ list. AreUnsteadyBy base.now (graph_after after.now) effects.now list.items) }
@@ -191,6 +203,6 @@ pub(crate) fn unsteady<L: Ledger>(
 {
     let left = unkept(alloc, base, after, effects.lost(), steps)?;
     let mut list = list_unsteady(alloc, base, after, effects, &left)?;
-    sort_dedup(&mut list);
+    keep_once(&mut list);
     Ok(list)
 }

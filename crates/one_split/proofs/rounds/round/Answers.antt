@@ -16,7 +16,7 @@ in_shared_blocks-requires-clause-blocks g c = λ n h. c.requires.partition.live 
 pub part_by_keys-requires : goal.part_by_keys-requires
 part_by_keys-requires g c =
     let p = shown_blocks c.args.base.now c.args.draft.now in
-    let is : c.deref.result.now ≡ filter (shares_block p) c.args.nodes.now = c.deref.ensures.value ∙ c.in_ok-kept.ensures in
+    let is : c.deref.result.now ≡ filter (shares_block p) c.args.nodes.now = c.deref.ensures ∙ c.in_ok-kept.ensures in
     record {
       over = c.requires.over;
       live = c.requires.live;
@@ -31,7 +31,7 @@ part_by_keys-requires g c =
 pub returns-clause-round : goal.returns-clause-round
 returns-clause-round g c =
     let p = shown_blocks c.args.base.now c.args.draft.now in
-    let is : c.deref.result.now ≡ filter (shares_block p) c.args.nodes.now = c.deref.ensures.value ∙ c.in_ok-kept.ensures in
+    let is : c.deref.result.now ≡ filter (shares_block p) c.args.nodes.now = c.deref.ensures ∙ c.in_ok-kept.ensures in
     IfOk-weaker c.part_by_keys.result
     (λ (next : Vec ℕ Global). IsRound c.args.after.now c.args.base.now c.args.draft.now c.part_by_keys.new.draft c.deref.result.now c.args.new_blocks.now.items c.part_by_keys.new.new_blocks.items next.items)
     _
@@ -41,7 +41,7 @@ returns-clause-round g c =
 pub returns-clause-cost : goal.returns-clause-cost
 returns-clause-cost g c =
     let p = shown_blocks c.args.base.now c.args.draft.now in
-    let is : c.deref.result.now ≡ filter (shares_block p) c.args.nodes.now = c.deref.ensures.value ∙ c.in_ok-kept.ensures in
+    let is : c.deref.result.now ≡ filter (shares_block p) c.args.nodes.now = c.deref.ensures ∙ c.in_ok-kept.ensures in
     let fewer = kept_sum (round_cost c.args.after.now) (shares_block p) c.args.nodes.now c.deref.result.now is in
     let cost = c.part_by_keys.ensures.cost in
     omega (arith, fewer, cost)

@@ -25,10 +25,10 @@ part_all-requires-clause-split g c =
     let node_labels = label_number (graph_after c.args.after.now) in
     let targets = has c.args.targets.now in
     let nodes = c.deref.result.now in
-    let present : ArePresent p targets (has nodes) = record { each = λ n. ap (λ xs. has xs n) c.deref.ensures.value ∙ c.in_ok-present.ensures.those n } in
+    let present : ArePresent p targets (has nodes) = record { each = λ n. ap (λ xs. has xs n) c.deref.ensures ∙ c.in_ok-present.ensures.those n } in
     record {
       over = c.requires.over;
-      once = subst (IsDistinct nat_eq) (sym c.deref.ensures.value) c.in_ok-present.ensures.once;
+      once = subst (IsDistinct nat_eq) (sym c.deref.ensures) c.in_ok-present.ensures.once;
       stable = stable_present s p targets (has nodes) present c.requires.stable;
       block_labels = block_labels_present p labels node_labels targets (has nodes) present c.requires.block_labels;
       none = c.requires.none;
@@ -41,11 +41,11 @@ returns-in_err-next-clause-cost g c = λ inside closed within.
     let p = shown_blocks c.args.base.now c.args.draft.now in
     let nodes = c.deref.result.now in
     let shape = is_shape (graph_after c.args.after.now) c.created-known.ensures.after in
-    let present : ArePresent p (has c.args.targets.now) (has nodes) = record { each = λ n. ap (λ xs. has xs n) c.deref.ensures.value ∙ c.in_ok-present.ensures.those n } in
+    let present : ArePresent p (has c.args.targets.now) (has nodes) = record { each = λ n. ap (λ xs. has xs n) c.deref.ensures ∙ c.in_ok-present.ensures.those n } in
     let took = c.part_all.ensures.cost in
     let sound = sound_of c.args.after.now c.created-known.ensures.new c.created-known.ensures.before c.created-known.ensures.after in
     let light = moves_most c.args.after.now inside nodes sound (record {
-      once = subst (IsDistinct nat_eq) (sym c.deref.ensures.value) c.in_ok-present.ensures.once;
+      once = subst (IsDistinct nat_eq) (sym c.deref.ensures) c.in_ok-present.ensures.once;
       live = λ n h. node_present s p (has c.args.targets.now) (has nodes) n present c.requires.stable.partition h;
       within = λ n h. within n (target_present p (has c.args.targets.now) (has nodes) n present h);
     }) in
@@ -58,7 +58,7 @@ rounds-init g c =
     let p = shown_blocks c.args.base.now c.args.draft.now in
     let nodes = c.deref.result.now in
     let shape = is_shape (graph_after c.args.after.now) c.created-known.ensures.after in
-    let present : ArePresent p (has c.args.targets.now) (has nodes) = record { each = λ n. ap (λ xs. has xs n) c.deref.ensures.value ∙ c.in_ok-present.ensures.those n } in
+    let present : ArePresent p (has c.args.targets.now) (has nodes) = record { each = λ n. ap (λ xs. has xs n) c.deref.ensures ∙ c.in_ok-present.ensures.those n } in
     record {
       over = c.in_ok-next.ensures.over;
       split = λ inside closed within. c.in_ok-next.ensures.split inside closed (λ n h. within n (target_present p (has c.args.targets.now) (has nodes) n present h));

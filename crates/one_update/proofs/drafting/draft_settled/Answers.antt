@@ -9,8 +9,8 @@ use Rattle.one_update.proofs.drafting.draft_settled.Goals as goal
 pub resettle-requires-clause-targets : goal.resettle-requires-clause-targets
 resettle-requires-clause-targets g c =
     unsteady_found c.args.after.now.before c.args.after.now.change c.args.base.now c.args.effects.now c.deref.result.now c.requires.before.graph c.requires.before.fits c.requires.effects
-    c.requires.targets (subst (IsDistinct nat_eq) (sym c.deref.ensures.value) c.in_ok-found.ensures.once)
-    (subst (AreUnsteadyBy c.args.base.now (graph_after c.args.after.now) c.args.effects.now) (sym c.deref.ensures.value) c.in_ok-found.ensures.same)
+    c.requires.targets (subst (IsDistinct nat_eq) (sym c.deref.ensures) c.in_ok-found.ensures.once)
+    (subst (AreUnsteadyBy c.args.base.now (graph_after c.args.after.now) c.args.effects.now) (sym c.deref.ensures) c.in_ok-found.ensures.same)
 
 pub returns-in_err-found-clause-cost : goal.returns-in_err-found-clause-cost
 returns-in_err-found-clause-cost g c =

@@ -60,8 +60,8 @@ returns-clause-shown g c =
           let p = shown_blocks q c.args.draft.now in
           let nodes = c.deref-2.result.now in
           let listed = subst (Lists (reached a.before a.change)) (sym c.deref-2.ensures.value) (reached_listed a.before a.change c.deref.result.now c.in_ok-nodes.nodes.items are c.in_ok-nodes.ensures.reached) in
-          let have = subst (HaveBlocks nodes p) (sym c.deref-3.ensures.value) (record { there = c.in_ok-add_blocks.ensures.there }) in
-          (merged_whole a.before a.change q.blocks.block_of p (shown_blocks q c.merge.new.draft) (at (shown_labels q c.args.draft.now)) (shown_support q c.args.draft.now) nodes c.deref-3.result.now
+          let have : HaveBlocks nodes p c.add_blocks.new.blocks.items = record { there = c.in_ok-add_blocks.ensures.there } in
+          (merged_whole a.before a.change q.blocks.block_of p (shown_blocks q c.merge.new.draft) (at (shown_labels q c.args.draft.now)) (shown_support q c.args.draft.now) nodes c.add_blocks.new.blocks.items
           c.created-known.ensures.after c.requires.split c.requires.shown.stable c.requires.shown.block_labels c.requires.shown.supports listed have (record { merged = c.in_ok-merge.ensures.merged })).stable;
       block_labels = c.in_ok-merge.ensures.block_labels (label_number (graph_after c.args.after.now)) c.requires.shown.block_labels;
       supports = c.in_ok-merge.ensures.supports (graph_after c.args.after.now) c.requires.shown.supports;
@@ -75,8 +75,8 @@ returns-clause-minimal g c =
     let p = shown_blocks q c.args.draft.now in
     let nodes = c.deref-2.result.now in
     let listed = subst (Lists (reached a.before a.change)) (sym c.deref-2.ensures.value) (reached_listed a.before a.change c.deref.result.now c.in_ok-nodes.nodes.items are c.in_ok-nodes.ensures.reached) in
-    let have = subst (HaveBlocks nodes p) (sym c.deref-3.ensures.value) (record { there = c.in_ok-add_blocks.ensures.there }) in
-    (merged_whole a.before a.change q.blocks.block_of p (shown_blocks q c.merge.new.draft) (at (shown_labels q c.args.draft.now)) (shown_support q c.args.draft.now) nodes c.deref-3.result.now
+    let have : HaveBlocks nodes p c.add_blocks.new.blocks.items = record { there = c.in_ok-add_blocks.ensures.there } in
+    (merged_whole a.before a.change q.blocks.block_of p (shown_blocks q c.merge.new.draft) (at (shown_labels q c.args.draft.now)) (shown_support q c.args.draft.now) nodes c.add_blocks.new.blocks.items
     c.created-known.ensures.after c.requires.split c.requires.shown.stable c.requires.shown.block_labels c.requires.shown.supports listed have (record { merged = c.in_ok-merge.ensures.merged })).minimal
 
 pub returns-clause-same : goal.returns-clause-same
@@ -87,6 +87,6 @@ returns-clause-same g c =
     let p = shown_blocks q c.args.draft.now in
     let nodes = c.deref-2.result.now in
     let listed = subst (Lists (reached a.before a.change)) (sym c.deref-2.ensures.value) (reached_listed a.before a.change c.deref.result.now c.in_ok-nodes.nodes.items are c.in_ok-nodes.ensures.reached) in
-    let have = subst (HaveBlocks nodes p) (sym c.deref-3.ensures.value) (record { there = c.in_ok-add_blocks.ensures.there }) in
-    (merged_whole a.before a.change q.blocks.block_of p (shown_blocks q c.merge.new.draft) (at (shown_labels q c.args.draft.now)) (shown_support q c.args.draft.now) nodes c.deref-3.result.now
+    let have : HaveBlocks nodes p c.add_blocks.new.blocks.items = record { there = c.in_ok-add_blocks.ensures.there } in
+    (merged_whole a.before a.change q.blocks.block_of p (shown_blocks q c.merge.new.draft) (at (shown_labels q c.args.draft.now)) (shown_support q c.args.draft.now) nodes c.add_blocks.new.blocks.items
     c.created-known.ensures.after c.requires.split c.requires.shown.stable c.requires.shown.block_labels c.requires.shown.supports listed have (record { merged = c.in_ok-merge.ensures.merged })).same

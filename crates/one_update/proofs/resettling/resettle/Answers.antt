@@ -1,4 +1,3 @@
-use Rattle.std.proofs.Common.{sym, subst}
 use Rattle.graph_spec.specs.Members.{at, has}
 use Rattle.label_graph.specs.GraphViews.{label_number}
 use Rattle.graph_update.specs.PendingChanges.{graph_after}
@@ -48,11 +47,11 @@ pub returns-clause-drafted : goal.returns-clause-drafted
 returns-clause-drafted g c =
     let a = c.args.after.now in
     let q = c.args.base.now in
-    let added = subst (AreFirstCandidates (has c.args.targets.now) (shown_blocks q c.split.new.draft) c.split.new.new_blocks.items) (sym c.deref.ensures.value)
-    (record { new_there = c.in_ok-add_blocks.ensures.kept; targets_there = c.in_ok-add_blocks.ensures.there }) in
+    let added : AreFirstCandidates (has c.args.targets.now) (shown_blocks q c.split.new.draft) c.split.new.new_blocks.items c.add_blocks.new.blocks.items =
+    record { new_there = c.in_ok-add_blocks.ensures.kept; targets_there = c.in_ok-add_blocks.ensures.there } in
     record {
       over = c.in_ok-merge.ensures.over;
-      step = stepped a.before a.change c.args.targets.now q c.args.draft.now c.split.new.draft (shown_blocks q c.merge.new.draft) c.split.new.new_blocks.items c.deref.result.now c.requires.before.graph
+      step = stepped a.before a.change c.args.targets.now q c.args.draft.now c.split.new.draft (shown_blocks q c.merge.new.draft) c.split.new.new_blocks.items c.add_blocks.new.blocks.items c.requires.before.graph
           c.requires.before.graph_after c.requires.before.fits c.requires.targets c.requires.changed (record { split = c.in_ok-split.ensures.split }) c.in_ok-split.ensures.block_labels
           c.in_ok-split.ensures.supports added (record { merged = c.in_ok-merge.ensures.merged }) c.requires.moves;
       block_labels = c.in_ok-merge.ensures.block_labels (label_number (graph_after a)) c.in_ok-split.ensures.block_labels;

@@ -9,6 +9,6 @@ returns-clause-same g c = record {
   left = c.in_ok-left.left.items;
   unkept = subst (λ lost. AreUnkept (graph_after c.args.after.now) c.args.base.now.blocks.block_of lost c.in_ok-left.left.items) c.lost.ensures c.in_ok-left.ensures.unkept;
   same = λ n.
-      c.sort_dedup.ensures.same n ∙ ap (λ xs. has xs n) c.in_ok-list.ensures
+      c.keep_once.ensures.same n ∙ ap (λ xs. has xs n) c.in_ok-list.ensures
       ∙ ap (λ left. has (unsteady_nodes c.args.base.now (graph_after c.args.after.now) c.args.effects.now left) n) c.deref.ensures.value;
 }
