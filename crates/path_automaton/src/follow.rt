@@ -193,7 +193,8 @@ fn mark_and_note_among<G: Digraph, S: Scope>(
 ) -> Result<(), Memory>
     requires nodes { (c : ℕ) → has nodes.now c ≡ true → IsSome (G.label_at g.now c) }
     requires wide { G.span g.now + 1 ≤ length row.old }
-    ensures gathers { OnOk result (Gathers (PassesAmong G.Digraph g.now (S.keeps scope.now) tests.0 nodes.now) row.old row.new found.old.items found.new.items) }
+    ensures gathers { OnOk result
+        (Gathers (PassesAmong G.Digraph g.now (S.keeps scope.now) tests.0 nodes.now) row.old row.new found.old.items found.new.items) }
     ensures marked { OnOk result ((c : ℕ) → IsTrue (has nodes.now c) → PassesWithin G.Digraph g.now (S.keeps scope.now) tests.0 c → IsSet row.new c) }
     ensures noted { OnOk result (Gains noted.old.items noted.new.items (PassesAmong G.Digraph g.now (S.keeps scope.now) tests.1 nodes.now)) }
 {
@@ -246,8 +247,10 @@ pub(crate) fn follow_both<G: Digraph, S: Scope>(
 ) -> Result<(), Memory>
     requires places { ArePlacesWithin G.Digraph g.now (S.keeps scope.now) places.now }
     requires wide { G.span g.now + 1 ≤ length row.old }
-    ensures gathers { OnOk result (Gathers (NextOfWithin G.Digraph g.now (S.keeps scope.now) tests.0 places.now) row.old row.new found.old.items found.new.items) }
-    ensures marked { OnOk result ((v c : ℕ) → IsTrue (has places.now v) → NextWithin G.Digraph g.now (S.keeps scope.now) tests.0 v c → IsSet row.new c) }
+    ensures gathers { OnOk result
+        (Gathers (NextOfWithin G.Digraph g.now (S.keeps scope.now) tests.0 places.now) row.old row.new found.old.items found.new.items) }
+    ensures marked { OnOk result ((v c : ℕ) → IsTrue (has places.now v) → NextWithin G.Digraph g.now (S.keeps scope.now) tests.0 v c
+        → IsSet row.new c) }
     ensures noted { OnOk result (Gains noted.old.items noted.new.items (NextOfWithin G.Digraph g.now (S.keeps scope.now) tests.1 places.now)) }
 {
     for p in places {
